@@ -1,0 +1,16 @@
+-- What document 01 says, one subject a file, in its order. docs/READING.md takes a newcomer through them.
+pub mod Choice
+pub mod Types
+pub mod Tables
+pub mod Files
+pub mod Bits
+pub mod Records
+pub mod Codecs
+pub mod Words
+pub mod Cuts
+pub mod Ladder
+pub mod TypeCalls
+pub mod RecordCalls
+pub mod CodecCalls
+pub mod WordCalls
+pub mod CutCalls

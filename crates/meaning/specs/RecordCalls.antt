@@ -1,0 +1,139 @@
+-- The calls on records: views, equality and order, lengths, constructors.
+use Prim.Native.Nat.{ℕ, zero, suc, _+_, _-_, Ordering, Ordering·lt, Ordering·eq, Ordering·gt, compare}
+use mathlib.Core.Bool.{Bool, true, false, not, _&&_}
+use mathlib.Core.List.{List, [], _∷_, _++_, map}
+use lib.ListN.{length}
+use Rattle.meaning.specs.Types.{Ty, unit, sum, prod, same, bits, isUnit, isSum, isProd, leftSide, rightSide}
+use Rattle.meaning.specs.Tables.{Table, tyAt, classOf, left, right}
+use Rattle.meaning.specs.Bits.{zeros}
+use Rattle.meaning.specs.Records.{tag, padLeft, padRight, inLeft, inRight, compact, sameBits, orderBits}
+use Rattle.meaning.specs.Ladder.{Answer, Rung, ladder, Record, typeOf, recordBits, named, within, shaped, makes, made}
+
+-- 1 to 5 of a call on records that also names these nodes.
+abbrev pub handed : Table → List Record → List ℕ → List Rung
+handed t rs ns = named t (map (λ r. r .node) rs ++ ns) ++ within t rs
+
+-- A sub-view: the caller's bytes at another offset and node.
+pub record Spot : Type 0 where
+  pub offset : ℕ
+  pub node : ℕ
+
+-- Two sub-views.
+pub record Spots : Type 0 where
+  pub first : Spot
+  pub second : Spot
+
+-- `as_left`: the payload of a left record, after tag and padding; the node is the side as the column has it.
+abbrev pub asLeft : Table → Record → Answer Spot
+asLeft t r =
+    ladder (handed t (r ∷ []) [] ++ shaped (isSum (typeOf t r) && not (tag (recordBits t r))))
+    (record {
+      offset = r .offset + (1 + padLeft (leftSide (typeOf t r)) (rightSide (typeOf t r)));
+      node = left (t .columns) (r .node)
+    })
+
+-- `as_right`: the payload of a right record.
+abbrev pub asRight : Table → Record → Answer Spot
+asRight t r =
+    ladder (handed t (r ∷ []) [] ++ shaped (isSum (typeOf t r) && tag (recordBits t r)))
+    (record {
+      offset = r .offset + (1 + padRight (leftSide (typeOf t r)) (rightSide (typeOf t r)));
+      node = right (t .columns) (r .node)
+    })
+
+-- `as_product`: the two parts, one after the other.
+abbrev pub asProduct : Table → Record → Answer Spots
+asProduct t r =
+    ladder (handed t (r ∷ []) [] ++ shaped (isProd (typeOf t r)))
+    (record {
+      first = record { offset = r .offset; node = left (t .columns) (r .node) };
+      second = record { offset = r .offset + bits (leftSide (typeOf t r)); node = right (t .columns) (r .node) }
+    })
+
+-- `equal`: the same class, which is the same tree, and the same width bits.
+abbrev pub equal : Table → Record → Record → Answer Bool
+equal t a b = ladder (handed t (a ∷ b ∷ []) []) (same (typeOf t a) (typeOf t b) && sameBits (recordBits t a) (recordBits t b))
+
+-- The order of two types goes first; where it does not decide, the bits do.
+abbrev pub orderThen : Ordering → Ordering → Ordering
+orderThen Ordering·lt rest = Ordering·lt
+orderThen Ordering·eq rest = rest
+orderThen Ordering·gt rest = Ordering·gt
+
+-- The order of the types of two nodes: the smaller class number first.
+abbrev pub orderTypes : Table → ℕ → ℕ → Ordering
+orderTypes t a b = compare (classOf (t .columns) a) (classOf (t .columns) b)
+
+-- `compare`: by type, and within a class by the first differing bit.
+abbrev pub compareCall : Table → Record → Record → Answer Ordering
+compareCall t a b =
+    ladder (handed t (a ∷ b ∷ []) [])
+    (orderThen (orderTypes t (a .node) (b .node)) (orderBits (recordBits t a) (recordBits t b)))
+
+-- `padded_len`: the width.
+abbrev pub paddedLen : Table → Record → Answer ℕ
+paddedLen t r = ladder (handed t (r ∷ []) []) (bits (typeOf t r))
+
+-- `compact_len`: the number of compact bits.
+abbrev pub compactLen : Table → Record → Answer ℕ
+compactLen t r = ladder (handed t (r ∷ []) []) (length (compact (typeOf t r) (recordBits t r)))
+
+-- The rungs of a constructor whose result is a type of the right shape.
+abbrev pub results : Table → List Record → ℕ → Bool → List Rung
+results t rs result right = handed t rs (result ∷ []) ++ shaped right
+
+-- The type of a node that a call names.
+abbrev pub typeAt : Table → ℕ → Ty
+typeAt t n = tyAt (t .columns) n
+
+-- `unit`: a record of no bits, of a unit node.
+abbrev pub unitRungs : Table → ℕ → List Rung
+unitRungs t result = results t [] result (isUnit (typeAt t result))
+
+-- `zero`: all bits zero, of any node.
+abbrev pub zeroRungs : Table → ℕ → List Rung
+zeroRungs t result = handed t [] (result ∷ [])
+
+-- The bits of `zero`.
+abbrev pub zeroBits : Table → ℕ → List Bool
+zeroBits t result = zeros (bits (typeAt t result))
+
+-- `left`: the result is a sum whose left side is the payload's type.
+abbrev pub leftRungs : Table → Record → ℕ → List Rung
+leftRungs t p result = results t (p ∷ []) result (isSum (typeAt t result) && same (leftSide (typeAt t result)) (typeOf t p))
+
+-- The bits of `left`.
+abbrev pub leftBits : Table → Record → ℕ → List Bool
+leftBits t p result = inLeft (leftSide (typeAt t result)) (rightSide (typeAt t result)) (recordBits t p)
+
+-- `right`: the result is a sum whose right side is the payload's type.
+abbrev pub rightRungs : Table → Record → ℕ → List Rung
+rightRungs t p result = results t (p ∷ []) result (isSum (typeAt t result) && same (rightSide (typeAt t result)) (typeOf t p))
+
+-- The bits of `right`.
+abbrev pub rightBits : Table → Record → ℕ → List Bool
+rightBits t p result = inRight (leftSide (typeAt t result)) (rightSide (typeAt t result)) (recordBits t p)
+
+-- `none`: the result is a sum with a unit left side; the left record of unit.
+abbrev pub noneRungs : Table → ℕ → List Rung
+noneRungs t result = results t [] result (isSum (typeAt t result) && isUnit (leftSide (typeAt t result)))
+
+-- The bits of `none`.
+abbrev pub noneBits : Table → ℕ → List Bool
+noneBits t result = inLeft (leftSide (typeAt t result)) (rightSide (typeAt t result)) []
+
+-- `some`: the result is the sum of unit and the payload's type; the right record of the payload.
+abbrev pub someRungs : Table → Record → ℕ → List Rung
+someRungs t p result =
+    results t (p ∷ []) result
+    (isSum (typeAt t result) && isUnit (leftSide (typeAt t result)) && same (rightSide (typeAt t result)) (typeOf t p))
+
+-- `product`: the result is the product of the two types.
+abbrev pub productRungs : Table → Record → Record → ℕ → List Rung
+productRungs t a b result =
+    results t (a ∷ b ∷ []) result
+    (isProd (typeAt t result) && same (leftSide (typeAt t result)) (typeOf t a) && same (rightSide (typeAt t result)) (typeOf t b))
+
+-- The bits of `product`: left, then right.
+abbrev pub productBits : Table → Record → Record → List Bool
+productBits t a b = recordBits t a ++ recordBits t b

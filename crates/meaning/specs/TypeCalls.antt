@@ -1,0 +1,170 @@
+-- The calls on tables and types, each with its answer and, where it fills columns, their contents afterwards.
+use Prim.Native.Nat.{ℕ, zero, suc, _-_, max}
+use mathlib.Core.Bool.{Bool, true, false, not, _&&_}
+use mathlib.Core.List.{List, [], _∷_, _++_, map}
+use lib.ListN.{length, drop, getD}
+use lib.Dec.{eqb, ltb, leb}
+use Rattle.meaning.specs.Choice.{from}
+use Rattle.meaning.specs.Types.{Ty, same, bits, width, size, padded, isUnit, isSum, isProd}
+use Rattle.meaning.specs.Tables.{Columns, Facts, Table, kind, left, right, tyAt, classOf, digit, NodeFacts, factsAt, countRight, columnsReach, factsReach, firstBadEntry}
+use Rattle.meaning.specs.Files.{Reading, faulty, found, Entry, tableIn, columnsOf}
+use Rattle.meaning.specs.Words.{wordWidths, asWord, buffer, ctx8}
+use Rattle.meaning.specs.Ladder.{Answer, Rung, rung, ladder, kept, sound, present, ranged, shaped}
+
+-- The contents of a column with n entries written from the front on; entries past them stay.
+abbrev pub filled : (ℕ → ℕ) → ℕ → List ℕ → List ℕ
+filled f n old = map f (from 0 n) ++ drop n old
+
+-- The facts of the first n nodes, written over four columns.
+abbrev pub factsWritten : Columns → ℕ → Facts → Facts
+factsWritten c n f =
+    record {
+      widths = filled (λ k. width (tyAt c k)) n (f .widths);
+      sizes = filled (λ k. size (tyAt c k)) n (f .sizes);
+      paddeds = filled (λ k. digit (padded (tyAt c k))) n (f .paddeds);
+      classes = filled (classOf c) n (f .classes)
+    }
+
+-- The facts' columns after a call: as they stood if it was refused.
+abbrev pub factsKept : {A : Type 0} → Answer A → Facts → Facts → Facts
+factsKept a before after =
+    record {
+      widths = kept a (before .widths) (after .widths);
+      sizes = kept a (before .sizes) (after .sizes);
+      paddeds = kept a (before .paddeds) (after .paddeds);
+      classes = kept a (before .classes) (after .classes)
+    }
+
+-- `check_table`: the table is sound.
+abbrev pub checkTable : Table → Answer (Unit {0})
+checkTable t = ladder (sound t) tt
+
+-- `fill_facts`: the entries are judged as in a sound table, and the facts' columns must reach the count.
+abbrev pub fillFacts : Columns → ℕ → Facts → Answer (Unit {0})
+fillFacts c n f =
+    ladder
+    (rung (not (countRight n && columnsReach c n)) 1 0
+    ∷ rung (ltb (firstBadEntry c n) n) 1 (firstBadEntry c n)
+    ∷ rung (not (factsReach f n)) 9 0
+    ∷ [])
+    tt
+
+-- The facts' columns after `fill_facts`.
+abbrev pub fillFactsOut : Columns → ℕ → Facts → Facts
+fillFactsOut c n f = factsKept (fillFacts c n f) f (factsWritten c n f)
+
+-- A faulty file is an unsound table, and the place is the fault's.
+abbrev pub fileRung : {A : Type 0} → Reading A → Rung
+fileRung (faulty p) = rung true 1 p
+fileRung (found a at) = rung false 1 0
+
+-- The nodes of a file that has no fault.
+abbrev pub entriesIn : Reading (List Entry) → List Entry
+entriesIn (faulty p) = []
+entriesIn (found es at) = es
+
+-- `read_table`: the whole file is judged first; then every column must reach the count, which is the answer.
+abbrev pub readTable : List ℕ → Columns → Facts → Answer ℕ
+readTable file c f =
+    ladder
+    (fileRung (tableIn file)
+    ∷ rung (not (columnsReach c (length (entriesIn (tableIn file))) && factsReach f (length (entriesIn (tableIn file))))) 9 0
+    ∷ [])
+    (length (entriesIn (tableIn file)))
+
+-- A list of nodes, written over three columns.
+abbrev pub entriesWritten : List Entry → Columns → Columns
+entriesWritten es c =
+    record {
+      kinds = map (λ e. e .kind) es ++ drop (length es) (c .kinds);
+      lefts = map (λ e. e .left) es ++ drop (length es) (c .lefts);
+      rights = map (λ e. e .right) es ++ drop (length es) (c .rights)
+    }
+
+-- The columns after a call: as they stood if it was refused.
+abbrev pub columnsKept : {A : Type 0} → Answer A → Columns → Columns → Columns
+columnsKept a before after =
+    record {
+      kinds = kept a (before .kinds) (after .kinds);
+      lefts = kept a (before .lefts) (after .lefts);
+      rights = kept a (before .rights) (after .rights)
+    }
+
+-- The entries' columns after `read_table`.
+abbrev pub readTableColumns : List ℕ → Columns → Facts → Columns
+readTableColumns file c f = columnsKept (readTable file c f) c (entriesWritten (entriesIn (tableIn file)) c)
+
+-- The facts' columns after `read_table`.
+abbrev pub readTableFacts : List ℕ → Columns → Facts → Facts
+readTableFacts file c f =
+    factsKept (readTable file c f) f
+    (factsWritten (columnsOf (entriesIn (tableIn file))) (length (entriesIn (tableIn file))) f)
+
+-- A question about the type of a node.
+abbrev pub asks : {A : Type 0} → Table → List ℕ → List Rung → A → Answer A
+asks t ns own a = ladder (sound t ++ (present t ns ++ own)) a
+
+-- `facts_of`
+abbrev pub factsOf : Table → ℕ → Answer NodeFacts
+factsOf t n = asks t (n ∷ []) [] (factsAt (t .columns) n)
+
+-- `same_type`: equal types means equal class, which is the same tree.
+abbrev pub sameType : Table → ℕ → ℕ → Answer Bool
+sameType t a b = asks t (a ∷ b ∷ []) [] (same (tyAt (t .columns) a) (tyAt (t .columns) b))
+
+-- `is_unit`
+abbrev pub isUnitCall : Table → ℕ → Answer Bool
+isUnitCall t n = asks t (n ∷ []) [] (isUnit (tyAt (t .columns) n))
+
+-- `is_empty`: the type has no width.
+abbrev pub isEmptyCall : Table → ℕ → Answer Bool
+isEmptyCall t n = asks t (n ∷ []) [] (eqb (width (tyAt (t .columns) n)) 0)
+
+-- The two sides of a node, as the columns have them.
+pub record Sides : Type 0 where
+  pub leftNode : ℕ
+  pub rightNode : ℕ
+
+-- The sides of a node.
+abbrev pub sidesOf : Table → ℕ → Sides
+sidesOf t n = record { leftNode = left (t .columns) n; rightNode = right (t .columns) n }
+
+-- `as_sum`: the sides of a sum.
+abbrev pub typeAsSum : Table → ℕ → Answer Sides
+typeAsSum t n = asks t (n ∷ []) (shaped (isSum (tyAt (t .columns) n))) (sidesOf t n)
+
+-- `as_product`: the sides of a product.
+abbrev pub typeAsProduct : Table → ℕ → Answer Sides
+typeAsProduct t n = asks t (n ∷ []) (shaped (isProd (tyAt (t .columns) n))) (sidesOf t n)
+
+-- `pad_left`: the padding of left records of the sum of two types, by their 64-bit widths.
+abbrev pub padLeftCall : Table → ℕ → ℕ → Answer ℕ
+padLeftCall t a b =
+    asks t (a ∷ b ∷ []) []
+    (max (width (tyAt (t .columns) a)) (width (tyAt (t .columns) b)) - width (tyAt (t .columns) a))
+
+-- `pad_right`: the padding of right records of the sum of two types, by their 64-bit widths.
+abbrev pub padRightCall : Table → ℕ → ℕ → Answer ℕ
+padRightCall t a b =
+    asks t (a ∷ b ∷ []) []
+    (max (width (tyAt (t .columns) a)) (width (tyAt (t .columns) b)) - width (tyAt (t .columns) b))
+
+-- `as_word`: n for that exact tree, else wrong shape.
+abbrev pub asWordCall : Table → ℕ → Answer ℕ
+asWordCall t n = asks t (n ∷ []) (shaped (ltb (asWord (tyAt (t .columns) n)) 32)) (asWord (tyAt (t .columns) n))
+
+-- `word_width`: the width of word type n.
+abbrev pub wordWidth : ℕ → Answer ℕ
+wordWidth n = ladder (ranged (ltb n 32)) (getD wordWidths n 0)
+
+-- `buffer_width`: the width of buffer type n.
+abbrev pub bufferWidth : ℕ → Answer ℕ
+bufferWidth n = ladder (ranged (ltb n 13)) (bits (buffer n))
+
+-- `is_buffer8`: the type is buffer type n.
+abbrev pub isBuffer8 : Table → ℕ → ℕ → Answer Bool
+isBuffer8 t a n = asks t (a ∷ []) (ranged (ltb n 13)) (same (tyAt (t .columns) a) (buffer n))
+
+-- `is_ctx8`: the type is the hash state's.
+abbrev pub isCtx8 : Table → ℕ → Answer Bool
+isCtx8 t a = asks t (a ∷ []) [] (same (tyAt (t .columns) a) ctx8)
