@@ -9,6 +9,7 @@ pub mod Codecs
 pub mod Words
 pub mod Cuts
 pub mod Ladder
+pub mod Checked
 pub mod TypeCalls
 pub mod RecordCalls
 pub mod CodecCalls

@@ -29,7 +29,7 @@ asLeft t r =
     ladder (handed t (r ∷ []) [] ++ shaped (isSum (typeOf t r) && not (tag (recordBits t r))))
     (record {
       offset = r .offset + (1 + padLeft (leftSide (typeOf t r)) (rightSide (typeOf t r)));
-      node = left (t .columns) (r .node)
+      node = left (t .columns) (r .node);
     })
 
 -- `as_right`: the payload of a right record.
@@ -38,7 +38,7 @@ asRight t r =
     ladder (handed t (r ∷ []) [] ++ shaped (isSum (typeOf t r) && tag (recordBits t r)))
     (record {
       offset = r .offset + (1 + padRight (leftSide (typeOf t r)) (rightSide (typeOf t r)));
-      node = right (t .columns) (r .node)
+      node = right (t .columns) (r .node);
     })
 
 -- `as_product`: the two parts, one after the other.
@@ -47,7 +47,7 @@ asProduct t r =
     ladder (handed t (r ∷ []) [] ++ shaped (isProd (typeOf t r)))
     (record {
       first = record { offset = r .offset; node = left (t .columns) (r .node) };
-      second = record { offset = r .offset + bits (leftSide (typeOf t r)); node = right (t .columns) (r .node) }
+      second = record { offset = r .offset + bits (leftSide (typeOf t r)); node = right (t .columns) (r .node) };
     })
 
 -- `equal`: the same class, which is the same tree, and the same width bits.

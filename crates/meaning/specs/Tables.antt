@@ -105,7 +105,7 @@ factsAt c n =
       classNo = classOf c n;
       kindOf = kind c n;
       leftNode = left c n;
-      rightNode = right c n
+      rightNode = right c n;
     }
 
 -- The sides that a kind allows at node n: zeros for a unit, earlier nodes for a sum and a product. There is no other kind.

@@ -22,7 +22,7 @@ factsWritten c n f =
       widths = filled (λ k. width (tyAt c k)) n (f .widths);
       sizes = filled (λ k. size (tyAt c k)) n (f .sizes);
       paddeds = filled (λ k. digit (padded (tyAt c k))) n (f .paddeds);
-      classes = filled (classOf c) n (f .classes)
+      classes = filled (classOf c) n (f .classes);
     }
 
 -- The facts' columns after a call: as they stood if it was refused.
@@ -32,7 +32,7 @@ factsKept a before after =
       widths = kept a (before .widths) (after .widths);
       sizes = kept a (before .sizes) (after .sizes);
       paddeds = kept a (before .paddeds) (after .paddeds);
-      classes = kept a (before .classes) (after .classes)
+      classes = kept a (before .classes) (after .classes);
     }
 
 -- `check_table`: the table is sound.
@@ -78,7 +78,7 @@ entriesWritten es c =
     record {
       kinds = map (λ e. e .kind) es ++ drop (length es) (c .kinds);
       lefts = map (λ e. e .left) es ++ drop (length es) (c .lefts);
-      rights = map (λ e. e .right) es ++ drop (length es) (c .rights)
+      rights = map (λ e. e .right) es ++ drop (length es) (c .rights);
     }
 
 -- The columns after a call: as they stood if it was refused.
@@ -87,7 +87,7 @@ columnsKept a before after =
     record {
       kinds = kept a (before .kinds) (after .kinds);
       lefts = kept a (before .lefts) (after .lefts);
-      rights = kept a (before .rights) (after .rights)
+      rights = kept a (before .rights) (after .rights);
     }
 
 -- The entries' columns after `read_table`.

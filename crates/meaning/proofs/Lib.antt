@@ -1,0 +1,2 @@
+-- The marked samples, computed, and the basic laws of the definitions.
+pub mod Samples
