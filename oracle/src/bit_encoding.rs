@@ -47,18 +47,12 @@ impl<I: Iterator<Item = u8>> BitIter<I> {
         if self.available < 8 {
             return Err(EarlyEndOfStreamError);
         }
+        // Of the current byte one to eight bits are used, so the next byte is always needed.
         let before = self.current;
-        if self.used_of_current == 0 {
-            // A byte of which no bit is taken yet stands alone.
-            self.current = 0;
-            self.used_of_current = 8;
-            self.count(8);
-            return Ok(before);
-        }
         self.current = self.bytes.next().ok_or(EarlyEndOfStreamError)?;
         self.count(8);
         let upper = before.checked_shl(self.used_of_current).unwrap_or(0);
-        Ok(upper | self.current.checked_shr(8 - self.used_of_current).unwrap_or(0))
+        Ok(upper | self.current >> (8 - self.used_of_current))
     }
 
     /// How many bits were read.

@@ -14,7 +14,7 @@
 //!
 //! * `library`: a request for any call of the port, and its answer
 //! * `model`: the port's rules, slow and plain: every call with its refusals
-//! * `asked`: the crate's text asked for the same answers, where it has one
+//! * `published`: the crate's text asked for the same answers, where it has one
 //! * `supply`: types, tables and random numbers for whoever asks
 
 // `value.rs` says `use hashes::sha256` and `use hex::DisplayHex`: both names lead back to this crate.
@@ -25,8 +25,12 @@ pub mod bit_encoding;
 #[allow(dead_code)]
 pub mod dag;
 pub mod display_hex;
+pub mod library;
+pub mod model;
 pub mod node;
+pub mod published;
 pub mod sha256;
+pub mod supply;
 pub mod tmr;
 pub mod types;
 #[allow(dead_code)]

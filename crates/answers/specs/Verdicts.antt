@@ -1,0 +1,74 @@
+-- Which of document 01's answers each value of an enum stands for: the number and place of a refusal, or what was accepted.
+use Prim.Native.Nat.{ℕ, Ordering, Ordering·lt, Ordering·eq, Ordering·gt}
+use mathlib.Core.Bool.{Bool}
+use Rattle.meaning.specs.Tables as tables
+use Rattle.meaning.specs.Ladder.{Answer, refused, accepted}
+use Rattle.meaning.specs.TypeCalls as types
+use Rattle.meaning.specs.RecordCalls as records
+use Rattle.answers.specs.declared.Refusal.{Refusal}
+use Rattle.answers.specs.declared.Done.{Done}
+use Rattle.answers.specs.declared.Count.{Count}
+use Rattle.answers.specs.declared.Flag.{Flag}
+use Rattle.answers.specs.declared.Sides.{Sides}
+use Rattle.answers.specs.declared.Sided.{Sided}
+use Rattle.answers.specs.declared.Facts.{Facts}
+use Rattle.answers.specs.declared.Told.{Told}
+use Rattle.answers.specs.declared.Spot.{Spot}
+use Rattle.answers.specs.declared.Seen.{Seen}
+use Rattle.answers.specs.declared.Parted.{Parted}
+use Rattle.answers.specs.declared.Order.{Order}
+use Rattle.answers.specs.declared.Compared.{Compared}
+
+-- A refusal's number and place.
+abbrev pub refusalOf : {A : Type 0} → Refusal → Answer A
+refusalOf r = refused (r .number) (r .place)
+
+abbrev pub doneOf : Done → Answer (Unit {0})
+doneOf Done.Accepted = accepted tt
+doneOf (Done.Refused r) = refusalOf r
+
+abbrev pub countOf : Count → Answer ℕ
+countOf (Count.Is n) = accepted n
+countOf (Count.Refused r) = refusalOf r
+
+abbrev pub flagOf : Flag → Answer Bool
+flagOf (Flag.Is b) = accepted b
+flagOf (Flag.Refused r) = refusalOf r
+
+abbrev pub sidesOf : Sided → Answer types.Sides
+sidesOf (Sided.Are s) = accepted (record { leftNode = s .left; rightNode = s .right })
+sidesOf (Sided.Refused r) = refusalOf r
+
+abbrev pub factsOf : Told → Answer tables.NodeFacts
+factsOf (Told.Are f) =
+    accepted
+    (record {
+      widthOf = f .width;
+      sizeOf = f .size;
+      paddedOf = f .padded;
+      classNo = f .class;
+      kindOf = f .kind;
+      leftNode = f .left;
+      rightNode = f .right
+    })
+factsOf (Told.Refused r) = refusalOf r
+
+abbrev pub spot : Spot → records.Spot
+spot s = record { offset = s .offset; node = s .node }
+
+abbrev pub spotOf : Seen → Answer records.Spot
+spotOf (Seen.At s) = accepted (spot s)
+spotOf (Seen.Refused r) = refusalOf r
+
+abbrev pub spotsOf : Parted → Answer records.Spots
+spotsOf (Parted.At a b) = accepted (record { first = spot a; second = spot b })
+spotsOf (Parted.Refused r) = refusalOf r
+
+abbrev pub order : Order → Ordering
+order Order.Less = Ordering·lt
+order Order.Equal = Ordering·eq
+order Order.Greater = Ordering·gt
+
+abbrev pub orderOf : Compared → Answer Ordering
+orderOf (Compared.Is o) = accepted (order o)
+orderOf (Compared.Refused r) = refusalOf r
