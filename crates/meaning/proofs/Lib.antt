@@ -1,2 +1,6 @@
 -- The marked samples, computed, and the basic laws of the definitions.
 pub mod Samples
+pub mod Tests
+pub mod Choices
+pub mod Types
+pub mod Trees
