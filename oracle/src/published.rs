@@ -234,6 +234,21 @@ impl Published {
         }
     }
 
+    /// How far the views of a record lie from its start, by the crate's `Debug` text; None where it has no view.
+    pub fn view_distances(&self, q: &Request) -> Option<Vec<u64>> {
+        let value = self.value(&self.types(&q.table), q.a);
+        let views = match q.call {
+            Call::AsLeft => vec![value.as_left()?],
+            Call::AsRight => vec![value.as_right()?],
+            _ => {
+                let (l, r) = value.as_product()?;
+                vec![l, r]
+            }
+        };
+        let start = offset_in_debug_text(&value);
+        Some(views.iter().map(|view| offset_in_debug_text(&view.to_value()) - start).collect())
+    }
+
     /// The views. The crate hides a value's offset; it is told by the bits that the view shows, so a view is
     /// answered as its padded bits (of a product, both views' bits).
     fn views(&self, types: &[Arc<Final>], q: &Request) -> Said {
@@ -251,6 +266,14 @@ impl Published {
             None => Said::Refuses,
         }
     }
+}
+
+/// The bit offset that the crate's `Debug` text shows of a value: the only way to see it from outside.
+fn offset_in_debug_text(value: &Value) -> u64 {
+    let text = format!("{value:?}");
+    let (_, after) = text.rsplit_once("raw_bit_offset: ").expect("the text names the offset");
+    let digits: String = after.chars().take_while(char::is_ascii_digit).collect();
+    digits.parse().expect("a number follows")
 }
 
 /// How far the crate's iterator has moved after it met an early end, if it did.
@@ -275,7 +298,7 @@ fn read(types: &[Arc<Final>], q: &Request) -> Said {
                 return Said::Refuses; // The crate is told n alone; the node is the port's.
             }
             let n = u32::try_from(q.n).unwrap_or(u32::MAX);
-            let word = or_panic(AssertUnwindSafe(|| Word::from_bits(&mut bits, n)).0);
+            let word = or_panic(|| Word::from_bits(&mut bits, n));
             word.and_then(Result::ok).map(|word| word.as_value().shallow_clone())
         }
     };
@@ -329,7 +352,8 @@ fn byte_array(data: &[u8]) -> Option<Option<Value>> {
             }
         };
     }
-    at_lengths!(0 1 2 3 4 5 6 7 8 9 12 15 16 17 24 31 32 33 48 63 64 65 100 127 128 129 256 512 1024 2048 4096)
+    at_lengths!(0 1 2 3 4 5 6 7 8 9 12 15 16 17 24 31 32 33 48 63 64 65 100 127 128 129 256 512 1024 2048 4096 8192
+        16384 32768 65536)
 }
 
 /// The roots that the constant lists name are those of the types built by the rules; asked once by the runs.

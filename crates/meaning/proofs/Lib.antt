@@ -4,3 +4,4 @@ pub mod Tests
 pub mod Choices
 pub mod Types
 pub mod Trees
+pub mod Ladders
