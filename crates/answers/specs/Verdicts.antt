@@ -49,7 +49,7 @@ factsOf (Told.Are f) =
       classNo = f .class;
       kindOf = f .kind;
       leftNode = f .left;
-      rightNode = f .right
+      rightNode = f .right;
     })
 factsOf (Told.Refused r) = refusalOf r
 

@@ -115,18 +115,23 @@ shape-right t h =
       sizes-reach = leb-true n (length (fs .sizes)) (and-right (reaches n (fs .widths)) (reaches n (fs .sizes)) f2);
       paddeds-reach = leb-true n (length (fs .paddeds)) (and-right (reaches n (fs .widths) && reaches n (fs .sizes)) (reaches n (fs .paddeds)) f3);
       classes-reach =
-        leb-true n (length (fs .classes))
-        (and-right (reaches n (fs .widths) && reaches n (fs .sizes) && reaches n (fs .paddeds)) (reaches n (fs .classes)) back)
+          leb-true n (length (fs .classes))
+          (and-right (reaches n (fs .widths) && reaches n (fs .sizes) && reaches n (fs .paddeds)) (reaches n (fs .classes)) back);
     }
 
 pub right-shape : (t : Table) → Shape t → shapeRight t ≡ true
 right-shape t s =
-    simp
-    (le-leb 1 (t .count) (s .some-node), le-leb (t .count) 1024 (s .few-nodes),
-      le-leb (t .count) (length (t .columns .kinds)) (s .kinds-reach), le-leb (t .count) (length (t .columns .lefts)) (s .lefts-reach),
-      le-leb (t .count) (length (t .columns .rights)) (s .rights-reach), le-leb (t .count) (length (t .facts .widths)) (s .widths-reach),
-      le-leb (t .count) (length (t .facts .sizes)) (s .sizes-reach), le-leb (t .count) (length (t .facts .paddeds)) (s .paddeds-reach),
-      le-leb (t .count) (length (t .facts .classes)) (s .classes-reach))
+    simp (
+      le-leb 1 (t .count) (s .some-node),
+      le-leb (t .count) 1024 (s .few-nodes),
+      le-leb (t .count) (length (t .columns .kinds)) (s .kinds-reach),
+      le-leb (t .count) (length (t .columns .lefts)) (s .lefts-reach),
+      le-leb (t .count) (length (t .columns .rights)) (s .rights-reach),
+      le-leb (t .count) (length (t .facts .widths)) (s .widths-reach),
+      le-leb (t .count) (length (t .facts .sizes)) (s .sizes-reach),
+      le-leb (t .count) (length (t .facts .paddeds)) (s .paddeds-reach),
+      le-leb (t .count) (length (t .facts .classes)) (s .classes-reach),
+    )
 
 -- The test that a node is at fault.
 abbrev pub bad : Table → ℕ → Bool
@@ -150,7 +155,7 @@ accepted-sound t h =
       paddeds-reach = s .paddeds-reach;
       classes-reach = s .classes-reach;
       entries = λ n l. and-left (entryRight (t .columns) n) (factsRight (t .columns) (t .facts) n) (ok n (omega arith));
-      told = λ n l. and-right (entryRight (t .columns) n) (factsRight (t .columns) (t .facts) n) (ok n (omega arith))
+      told = λ n l. and-right (entryRight (t .columns) n) (factsRight (t .columns) (t .facts) n) (ok n (omega arith));
     }
   where
     ok : (n : ℕ) → n < firstBad t → (entryRight (t .columns) n && factsRight (t .columns) (t .facts) n) ≡ true
@@ -167,15 +172,16 @@ sound-shape t s =
       widths-reach = s .widths-reach;
       sizes-reach = s .sizes-reach;
       paddeds-reach = s .paddeds-reach;
-      classes-reach = s .classes-reach
+      classes-reach = s .classes-reach;
     }
 
 pub sound-accepted : (t : Table) → Sound t → checkTable t ≡ accepted (tt {0})
 unfolding firstBad ladder
 sound-accepted t s =
-    simp
-    (right-shape t (sound-shape t s),
-      le-ltb (least (bad t) (t .count)) (t .count) (le-of-eq (sym (least-none (bad t) (t .count) fine))))
+    simp (
+      right-shape t (sound-shape t s),
+      le-ltb (least (bad t) (t .count)) (t .count) (le-of-eq (sym (least-none (bad t) (t .count) fine))),
+    )
   where
     fine : (k : ℕ) → k < t .count → bad t k ≡ false
     fine k l = rw (s .entries k l, s .told k l)

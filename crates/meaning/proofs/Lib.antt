@@ -5,3 +5,4 @@ pub mod Choices
 pub mod Types
 pub mod Trees
 pub mod Ladders
+pub mod Records
