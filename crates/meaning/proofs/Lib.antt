@@ -5,4 +5,5 @@ pub mod Choices
 pub mod Types
 pub mod Trees
 pub mod Ladders
+pub mod Sounds
 pub mod Records
