@@ -2,7 +2,7 @@
 
 use super::{before, Size};
 use crate::run::Run;
-use oracle::library::{Call, OwnedColumns, Record, Request, Stream};
+use oracle::library::{Call, OwnedColumns, Record, Request, Stream, VALUES_BEFORE};
 use oracle::supply::{trees_up_to, Random, TableMaker};
 
 /// Numbers at which sums and products of 64 bits go wrong, and small ones.
@@ -20,12 +20,10 @@ pub fn sweep(run: &mut Run, size: &Size) {
         let call = *random.pick(Call::ALL);
         let kept = random.pick(&tables);
         let mut table = kept.clone();
-        let mut facts = [[0u64; 8]; 1];
-        facts[0] = oracle::library::VALUES_BEFORE;
         let mut q = sound(&mut random, call, kept, &garbage, &out);
         let faults = random.below(5);
         for _ in 0..faults {
-            spoil(&mut random, &mut q, &mut table, &garbage, &facts[0]);
+            spoil(&mut random, &mut q, &mut table, &garbage);
         }
         q.table = table.lend();
         run.check(&q);
@@ -38,8 +36,8 @@ fn tables(random: &mut Random) -> Vec<OwnedColumns> {
     let mut tables = Vec::new();
     for _ in 0..60 {
         let mut maker = TableMaker::new();
-        maker.add_spread(random.pick(&trees));
-        maker.add_shared(random.pick(&trees));
+        maker.add_spread(&random.pick(&trees[..]).clone());
+        maker.add_shared(&random.pick(&trees[..]).clone());
         tables.push(maker.finish());
     }
     let mut words = TableMaker::new();
@@ -65,7 +63,7 @@ fn tables(random: &mut Random) -> Vec<OwnedColumns> {
 fn sound<'a>(
     random: &mut Random, call: Call, table: &'a OwnedColumns, garbage: &'a [u8], out: &'a [u8],
 ) -> Request<'a> {
-    let mut record = |random: &mut Random| {
+    let record = |random: &mut Random| {
         let node = random.below(table.count);
         let offset = random.below(64);
         let length = (offset + table.widths[node as usize].min(524_288)).div_ceil(8) as usize + random.below(2) as usize;
@@ -91,7 +89,7 @@ fn sound<'a>(
         data: &garbage[..data_length],
         buffer: &garbage[100..100 + random.below(64) as usize],
         stream: Stream { bytes: &garbage[200..225], length, position: random.below(length + 1) },
-        values: &oracle::library::VALUES_BEFORE[..values_length],
+        values: &VALUES_BEFORE[..values_length],
         out: &out[..room],
         ..Request::new(call, table.lend())
     }
@@ -108,7 +106,7 @@ fn parent_of(random: &mut Random, table: &OwnedColumns, side: u64) -> u64 {
 }
 
 /// One thing wrong, or at least different.
-fn spoil<'a>(random: &mut Random, q: &mut Request<'a>, table: &mut OwnedColumns, garbage: &'a [u8], values: &'a [u64]) {
+fn spoil<'a>(random: &mut Random, q: &mut Request<'a>, table: &mut OwnedColumns, garbage: &'a [u8]) {
     let wild = *random.pick(&NUMBERS);
     match random.below(26) {
         0 => q.a.node = around(random, table.count, wild),
@@ -126,7 +124,7 @@ fn spoil<'a>(random: &mut Random, q: &mut Request<'a>, table: &mut OwnedColumns,
         13 => q.data = &garbage[..random.below(70) as usize],
         14 => q.buffer = &garbage[..random.below(70) as usize],
         15 => q.out = &q.out[..random.below(q.out.len() as u64 + 1) as usize],
-        16 if q.call.values_are_a_slice() => q.values = &values[..random.below(8) as usize],
+        16 if q.call.values_are_a_slice() => q.values = &VALUES_BEFORE[..random.below(8) as usize],
         17 => table.count = around(random, table.kinds.len() as u64, wild),
         18 => shorten(random, table),
         19 | 20 => spoil_entry(random, table),

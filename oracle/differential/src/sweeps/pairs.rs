@@ -25,7 +25,7 @@ pub fn sweep(run: &mut Run, size: &Size) {
     }
     for _ in 0..size.pick(5_000, 100_000) {
         let mut maker = TableMaker::new();
-        let nodes = [maker.add_shared(random.pick(&trees)), maker.add_spread(random.pick(&trees))];
+        let nodes = [maker.add_shared(&random.pick(&trees[..]).clone()), maker.add_spread(&random.pick(&trees[..]).clone())];
         let table = maker.finish();
         let side = |random: &mut Random, node: u16| {
             (u64::from(node), random.below(1 << table.widths[usize::from(node)]))

@@ -112,7 +112,8 @@ fn shrink(maker: &mut TableMaker, random: &mut Random, node: u16, seen: &mut Has
 fn every_call(run: &mut Run, random: &mut Random, table: &OwnedColumns, node: u64, targets: &HashMap<u64, u64>) {
     let width = table.widths[node as usize].min(530_000);
     let offset = random.below(64);
-    let bytes = sparse(random, bytes_for(offset + width) + random.below(2) as usize);
+    let after = random.below(2) as usize;
+    let bytes = sparse(random, bytes_for(offset + width) + after);
     let a = Record { bytes: &bytes, offset, node };
     let out = before(bytes_for(width) + 2);
     for call in [Call::AsLeft, Call::AsRight, Call::AsProduct, Call::CompactLen, Call::PaddedLen] {
@@ -203,14 +204,14 @@ fn at_the_limits(run: &mut Run, random: &mut Random) {
     let mut maker = TableMaker::new();
     let word = maker.word(19);
     let bit = maker.word(0);
-    let short = (0..19).fold(bit, |all, n| {
+    // Words 0 to 18 side by side are one bit short of the limit.
+    let mut one_less = bit;
+    for n in 1..19 {
         let next = maker.word(n);
-        maker.shared(2, all, next)
-    });
-    let sum_at_limit = {
-        let one_less = (0..19).rev().map(|n| maker.word(n)).reduce(|l, r| maker.shared(2, l, r)).expect("many");
-        maker.shared(1, 0, one_less)
-    };
+        one_less = maker.shared(2, one_less, next);
+    }
+    let no_word = maker.shared(2, bit, one_less);
+    let sum_at_limit = maker.shared(1, 0, one_less);
     let over = maker.shared(2, word, bit);
     let sum_over = maker.shared(1, bit, word);
     let mut hollow = 0;
@@ -221,7 +222,7 @@ fn at_the_limits(run: &mut Run, random: &mut Random) {
     let hollow_over = maker.push(2, hollow, 0);
     let wide_and_large = maker.push(2, hollow_over, over);
     let table = maker.finish();
-    for node in [word, short, sum_at_limit, over, sum_over, hollow, hollow_over, wide_and_large] {
+    for node in [word, no_word, sum_at_limit, over, sum_over, hollow, hollow_over, wide_and_large] {
         every_call(run, random, &table, node.into(), &HashMap::new());
     }
 }

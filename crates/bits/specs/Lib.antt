@@ -1,0 +1,2 @@
+-- What the contracts of `bits` cite beside the definitions of `meaning`.
+pub mod Runs

@@ -1,0 +1,8 @@
+-- The great theorems over the definitions, one subject a file.
+pub mod RecordParts
+pub mod RecordPlain
+pub mod RecordPadding
+pub mod CodecRoundTrips
+pub mod RecordPrefixes
+pub mod CodecExact
+pub mod CodecReaders

@@ -1,0 +1,3 @@
+#![deny(unsafe_code)]
+#![warn(missing_docs)]
+pub mod raw;
