@@ -143,7 +143,7 @@ macro_rules! calls {
         $($doc)*
         #[allow(clippy::too_many_arguments)]
         pub fn $name($($par)*) -> u64 {
-            extern "C" {
+            unsafe extern "C" {
                 #[link_name = $symbol]
                 fn exported($($ext)*) -> u64;
             }

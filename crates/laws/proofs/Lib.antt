@@ -6,3 +6,9 @@ pub mod CodecRoundTrips
 pub mod RecordPrefixes
 pub mod CodecExact
 pub mod CodecReaders
+pub mod CutSides
+pub mod CutTrees
+pub mod CutJudged
+pub mod CutRules
+pub mod CutLaws
+pub mod CutExcluded
