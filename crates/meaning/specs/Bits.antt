@@ -4,7 +4,8 @@
 --   bitsOf                      the bits of bytes, from the top of each byte
 --   zeros                       bits that are all zero
 --   room                        the bytes that hold a number of bits
---   value pack                  the number that bits make; the bytes that hold bits, with zero bits after the last
+--   bit value                   a bit, and the bits of a list, as a number
+--   packTo pack                 the bytes that hold bits, with zero bits after the last
 --   written                     an output after a record was written at its bit 0
 use Prim.Native.Nat.{ℕ, zero, suc, _+_, _*_, _/_, _%_, _^_}
 use mathlib.Core.Bool.{Bool, true, false}

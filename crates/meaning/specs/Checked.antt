@@ -1,5 +1,5 @@
--- What an inner function may rely on once a public call has checked it: a sound table, and bytes that are bytes. No public call asks for any
--- of this.
+-- What an inner function may rely on: a sound table, once a public call has checked it, and bytes, which the type `u8` promises. No public
+-- call asks for any of this.
 --
 --   Sound          a table that `check_table` accepts
 --   Bytes          numbers below 256

@@ -1,4 +1,7 @@
 -- The calls of the two codecs.
+--
+--   reads readOut               a reader's answer and output, from what it decodes
+--   fromCompactCall fromPaddedCall toCompactCall toPaddedCall, and the same with Out for the output
 use Prim.Native.Nat.{ℕ, _+_}
 use mathlib.Core.Bool.{Bool}
 use mathlib.Core.List.{List, [], _∷_, _++_}
@@ -7,8 +10,8 @@ use Rattle.meaning.specs.Tables.{Table}
 use Rattle.meaning.specs.Bits.{written}
 use Rattle.meaning.specs.Records.{compact}
 use Rattle.meaning.specs.Codecs.{Decoded, decodeCompact, decodePadded, isEarly, recordOf, consumed}
-use Rattle.meaning.specs.Ladder.{Answer, Rung, rung, ladder, kept, Record, Stream, typeOf, recordBits, restOf, named, streamFits, roomFor}
-use Rattle.meaning.specs.RecordCalls.{handed, typeAt}
+use Rattle.meaning.specs.Ladder.{Answer, Rung, rung, ladder, kept, Record, Stream, typeAt, typeOf, recordBits, restOf, named, streamFits, roomFor, makes, made}
+use Rattle.meaning.specs.RecordCalls.{handed}
 
 -- A reader's answer: after its other rungs 8 for a stream that ends early, then 9; accepted, the next position.
 abbrev pub reads : List Rung → Stream → Decoded → List ℕ → Answer ℕ
@@ -37,3 +40,35 @@ writeRungs t r = handed t (r ∷ []) []
 -- What `to_compact_bits` writes.
 abbrev pub compactBits : Table → Record → List Bool
 compactBits t r = compact (typeOf t r) (recordBits t r)
+
+-- `from_compact_bits`: the answer.
+abbrev pub fromCompactCall : Table → Stream → ℕ → List ℕ → Answer ℕ
+fromCompactCall t s node out = reads (readRungs t s node) s (compactIn t s node) out
+
+-- `from_compact_bits`: the output.
+abbrev pub fromCompactOut : Table → Stream → ℕ → List ℕ → List ℕ
+fromCompactOut t s node out = readOut (readRungs t s node) s (compactIn t s node) out
+
+-- `from_padded_bits`: the answer.
+abbrev pub fromPaddedCall : Table → Stream → ℕ → List ℕ → Answer ℕ
+fromPaddedCall t s node out = reads (readRungs t s node) s (paddedIn t s node) out
+
+-- `from_padded_bits`: the output.
+abbrev pub fromPaddedOut : Table → Stream → ℕ → List ℕ → List ℕ
+fromPaddedOut t s node out = readOut (readRungs t s node) s (paddedIn t s node) out
+
+-- `to_compact_bits`: the answer.
+abbrev pub toCompactCall : Table → Record → List ℕ → Answer ℕ
+toCompactCall t r out = makes (writeRungs t r) (compactBits t r) out
+
+-- `to_compact_bits`: the output.
+abbrev pub toCompactOut : Table → Record → List ℕ → List ℕ
+toCompactOut t r out = made (writeRungs t r) (compactBits t r) out
+
+-- `to_padded_bits` writes the record's own bits: the answer.
+abbrev pub toPaddedCall : Table → Record → List ℕ → Answer ℕ
+toPaddedCall t r out = makes (writeRungs t r) (recordBits t r) out
+
+-- `to_padded_bits`: the output.
+abbrev pub toPaddedOut : Table → Record → List ℕ → List ℕ
+toPaddedOut t r out = made (writeRungs t r) (recordBits t r) out

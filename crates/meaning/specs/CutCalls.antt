@@ -5,8 +5,8 @@ use mathlib.Core.List.{List, [], _∷_}
 use mathlib.Core.Option.{Option, none, some}
 use Rattle.meaning.specs.Tables.{Table}
 use Rattle.meaning.specs.Cuts.{cut}
-use Rattle.meaning.specs.Ladder.{Rung, Record, typeOf, recordBits}
-use Rattle.meaning.specs.RecordCalls.{results, typeAt}
+use Rattle.meaning.specs.Ladder.{Answer, Rung, Record, typeAt, typeOf, recordBits, makes, made}
+use Rattle.meaning.specs.RecordCalls.{results}
 
 -- A cut that has the right shape.
 abbrev pub isCut : Option (List Bool) → Bool
@@ -25,3 +25,11 @@ cutOf t r target = cut (typeAt t target) (typeOf t r) (recordBits t r)
 -- `prune`: 1 to 5 of record and target, and 7 for a wrong shape.
 abbrev pub pruneRungs : Table → Record → ℕ → List Rung
 pruneRungs t r target = results t (r ∷ []) target (isCut (cutOf t r target))
+
+-- `prune`: the answer.
+abbrev pub pruneCall : Table → Record → ℕ → List ℕ → Answer ℕ
+pruneCall t r target out = makes (pruneRungs t r target) (cutBits (cutOf t r target)) out
+
+-- `prune`: the output.
+abbrev pub pruneOut : Table → Record → ℕ → List ℕ → List ℕ
+pruneOut t r target out = made (pruneRungs t r target) (cutBits (cutOf t r target)) out

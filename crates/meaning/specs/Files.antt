@@ -3,8 +3,11 @@
 --   Reading                     what is read, with the offset after it; or the place of the fault
 --   groups                      a number in groups of seven bits, shortest form, at most two groups
 --   number                      such a number in its range
---   Entry entryFrom entriesFrom nodes
---   tableIn                     the nodes of a whole file, after which nothing follows
+--   andThen                     one reading after another
+--   Entry                       a node as the file has it
+--   entryOf entryFrom entriesFrom   a node of a kind, a node, several nodes
+--   ended tableIn               the nodes of a whole file, after which nothing follows
+--   columnsOf                   the columns that hold them
 use Prim.Native.Nat.{ℕ, zero, suc, _+_, _*_, _-_, _%_}
 use mathlib.Core.Bool.{Bool, true, false, cond, _&&_}
 use mathlib.Core.List.{List, [], _∷_, map}

@@ -4,10 +4,11 @@
 --   Answer rung ladder          answers, a fact with its number and place, the first that holds
 --   kept                        a lent buffer afterwards: as it stood if refused
 --   Record Stream               bytes, offset and node; bytes, length and position, in bits
---   typeOf recordBits restOf    the type and own bits of a record; the bits of a stream from its position to its length
---   sound named within streamFits roomFor
---                               the rungs that many calls share
---   make                        a call that makes a record: its answer and its output
+--   typeAt typeOf               the type of a node, and of a record
+--   recordBits restOf           the own bits of a record; the bits of a stream from its position to its length
+--   sound present small named within streamFits ranged shaped roomFor
+--                               the rungs that many calls share: 1; 2; 3 and 4; 1 to 4; 5; 5; 6; 7; 9
+--   makes made                  a call that writes bits: its answer and its output
 use Prim.Native.Nat.{ℕ, zero, suc, _+_, _*_, _-_}
 use mathlib.Core.Bool.{Bool, true, false, not, _&&_, _||_}
 use mathlib.Core.List.{List, [], _∷_, _++_}
@@ -48,7 +49,7 @@ pub record Record : Type 0 where
 abbrev pub record-of : List ℕ → ℕ → ℕ → Record
 record-of b o n = record { bytes = b; offset = o; node = n }
 
--- A stream is bytes, a length in bits and a position.
+-- A stream is bytes, a length in bits (`until`) and a position.
 pub record Stream : Type 0 where
   pub bytes : List ℕ
   pub until : ℕ
@@ -57,6 +58,10 @@ pub record Stream : Type 0 where
 -- A stream from its parts.
 abbrev pub stream-of : List ℕ → ℕ → ℕ → Stream
 stream-of b l p = record { bytes = b; until = l; position = p }
+
+-- The type of a node that a call names.
+abbrev pub typeAt : Table → ℕ → Ty
+typeAt t n = tyAt (t .columns) n
 
 -- The type of a record.
 abbrev pub typeOf : Table → Record → Ty

@@ -3,10 +3,10 @@
 --   tag padLeft padRight        the first bit of a sum; how much padding follows it on either side
 --   leftOf rightOf              the payload of a sum, at its end
 --   firstOf secondOf            the parts of a product
---   inLeft inRight pair         a record made of its payload or its parts, new padding zero
+--   inLeft inRight              a record made of its payload, new padding zero
 --   compact                     the tags met on the walk, left before right, without padding
 --   plain                       the record with the same tags and zero padding
---   sameBits before             equality and order of bits
+--   sameBits orderBits          equality and order of bits
 use Prim.Native.Nat.{ℕ, zero, suc, _+_, _-_, max, Ordering, Ordering·lt, Ordering·eq, Ordering·gt}
 use mathlib.Core.Bool.{Bool, true, false, cond, _&&_, Bool·beq}
 use mathlib.Core.List.{List, [], _∷_, _++_}

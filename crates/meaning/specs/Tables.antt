@@ -3,13 +3,15 @@
 --   Columns Facts Table         what a call is handed
 --   table                       a table from its columns, facts and count
 --   kind left right             the entry of a node
---   tyAt                        the type of a node: its tree
+--   node tyTo tyAt              the type of a node: its tree
 --   classOf                     the smallest node with the same tree
 --   digit                       a fact that is yes or no, as the column has it
 --   NodeFacts factsAt           all facts of a node
---   entryRight factsRight       an entry, and the facts handed in, are right
---   countRight reaches          a count of 1 to 1,024; a column that reaches it
---   firstBad                    the first node at fault, or the count where there is none
+--   sidesRight entryRight       an entry is right
+--   factsRight                  the facts handed in are right
+--   countRight                  a count of 1 to 1,024
+--   reaches columnsReach factsReach     columns that reach it
+--   firstBadEntry firstBad      the first node at fault, or the count where there is none
 use Prim.Native.Nat.{ℕ, zero, suc}
 use mathlib.Core.Bool.{Bool, true, false, not, cond, _&&_}
 use mathlib.Core.List.{List}
@@ -61,7 +63,7 @@ left c n = getD (c .lefts) n 0
 abbrev pub right : Columns → ℕ → ℕ
 right c n = getD (c .rights) n 0
 
--- The type of a kind and two sides.
+-- The type of a kind and two sides. A kind above 2 is no kind: `sidesRight` refuses it, whatever stands for it here.
 abbrev pub node : ℕ → Ty → Ty → Ty
 node zero a b = unit
 node (suc zero) a b = sum a b

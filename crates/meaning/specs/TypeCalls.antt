@@ -1,4 +1,10 @@
 -- The calls on tables and types, each with its answer and, where it fills columns, their contents afterwards.
+--
+--   checkTable                  the check
+--   fillFacts fillFactsOut      facts from columns
+--   readTable readTableColumns readTableFacts   a table from its file
+--   asks factsOf sameType isUnitCall isEmptyCall typeAsSum typeAsProduct padLeftCall padRightCall asWordCall
+--   wordWidth bufferWidth isBuffer8 isCtx8      the type-only questions
 use Prim.Native.Nat.{ℕ, zero, suc, _-_, max}
 use mathlib.Core.Bool.{Bool, true, false, not, _&&_}
 use mathlib.Core.List.{List, [], _∷_, _++_, map}
@@ -9,7 +15,7 @@ use Rattle.meaning.specs.Types.{Ty, same, bits, width, size, padded, isU
 use Rattle.meaning.specs.Tables.{Columns, Facts, Table, kind, left, right, tyAt, classOf, digit, NodeFacts, factsAt, countRight, columnsReach, factsReach, firstBadEntry}
 use Rattle.meaning.specs.Files.{Reading, faulty, found, Entry, tableIn, columnsOf}
 use Rattle.meaning.specs.Words.{wordWidths, asWord, buffer, ctx8}
-use Rattle.meaning.specs.Ladder.{Answer, Rung, rung, ladder, kept, sound, present, ranged, shaped}
+use Rattle.meaning.specs.Ladder.{Answer, Rung, rung, ladder, kept, typeAt, sound, present, ranged, shaped}
 
 -- The contents of a column with n entries written from the front on; entries past them stay.
 abbrev pub filled : (ℕ → ℕ) → ℕ → List ℕ → List ℕ
@@ -104,21 +110,21 @@ readTableFacts file c f =
 abbrev pub asks : {A : Type 0} → Table → List ℕ → List Rung → A → Answer A
 asks t ns own a = ladder (sound t ++ (present t ns ++ own)) a
 
--- `facts_of`
+-- `facts_of`: everything that the table says of a node.
 abbrev pub factsOf : Table → ℕ → Answer NodeFacts
 factsOf t n = asks t (n ∷ []) [] (factsAt (t .columns) n)
 
 -- `same_type`: equal types means equal class, which is the same tree.
 abbrev pub sameType : Table → ℕ → ℕ → Answer Bool
-sameType t a b = asks t (a ∷ b ∷ []) [] (same (tyAt (t .columns) a) (tyAt (t .columns) b))
+sameType t a b = asks t (a ∷ b ∷ []) [] (same (typeAt t a) (typeAt t b))
 
--- `is_unit`
+-- `is_unit`: the type is unit.
 abbrev pub isUnitCall : Table → ℕ → Answer Bool
-isUnitCall t n = asks t (n ∷ []) [] (isUnit (tyAt (t .columns) n))
+isUnitCall t n = asks t (n ∷ []) [] (isUnit (typeAt t n))
 
 -- `is_empty`: the type has no width.
 abbrev pub isEmptyCall : Table → ℕ → Answer Bool
-isEmptyCall t n = asks t (n ∷ []) [] (eqb (width (tyAt (t .columns) n)) 0)
+isEmptyCall t n = asks t (n ∷ []) [] (eqb (width (typeAt t n)) 0)
 
 -- The two sides of a node, as the columns have them.
 pub record Sides : Type 0 where
@@ -129,29 +135,29 @@ pub record Sides : Type 0 where
 abbrev pub sidesOf : Table → ℕ → Sides
 sidesOf t n = record { leftNode = left (t .columns) n; rightNode = right (t .columns) n }
 
--- `as_sum`: the sides of a sum.
+-- `as_sum` of a type: the sides of a sum.
 abbrev pub typeAsSum : Table → ℕ → Answer Sides
-typeAsSum t n = asks t (n ∷ []) (shaped (isSum (tyAt (t .columns) n))) (sidesOf t n)
+typeAsSum t n = asks t (n ∷ []) (shaped (isSum (typeAt t n))) (sidesOf t n)
 
--- `as_product`: the sides of a product.
+-- `as_product` of a type: the sides of a product.
 abbrev pub typeAsProduct : Table → ℕ → Answer Sides
-typeAsProduct t n = asks t (n ∷ []) (shaped (isProd (tyAt (t .columns) n))) (sidesOf t n)
+typeAsProduct t n = asks t (n ∷ []) (shaped (isProd (typeAt t n))) (sidesOf t n)
 
 -- `pad_left`: the padding of left records of the sum of two types, by their 64-bit widths.
 abbrev pub padLeftCall : Table → ℕ → ℕ → Answer ℕ
 padLeftCall t a b =
     asks t (a ∷ b ∷ []) []
-    (max (width (tyAt (t .columns) a)) (width (tyAt (t .columns) b)) - width (tyAt (t .columns) a))
+    (max (width (typeAt t a)) (width (typeAt t b)) - width (typeAt t a))
 
 -- `pad_right`: the padding of right records of the sum of two types, by their 64-bit widths.
 abbrev pub padRightCall : Table → ℕ → ℕ → Answer ℕ
 padRightCall t a b =
     asks t (a ∷ b ∷ []) []
-    (max (width (tyAt (t .columns) a)) (width (tyAt (t .columns) b)) - width (tyAt (t .columns) b))
+    (max (width (typeAt t a)) (width (typeAt t b)) - width (typeAt t b))
 
 -- `as_word`: n for that exact tree, else wrong shape.
 abbrev pub asWordCall : Table → ℕ → Answer ℕ
-asWordCall t n = asks t (n ∷ []) (shaped (ltb (asWord (tyAt (t .columns) n)) 32)) (asWord (tyAt (t .columns) n))
+asWordCall t n = asks t (n ∷ []) (shaped (ltb (asWord (typeAt t n)) 32)) (asWord (typeAt t n))
 
 -- `word_width`: the width of word type n.
 abbrev pub wordWidth : ℕ → Answer ℕ
@@ -163,8 +169,8 @@ bufferWidth n = ladder (ranged (ltb n 13)) (bits (buffer n))
 
 -- `is_buffer8`: the type is buffer type n.
 abbrev pub isBuffer8 : Table → ℕ → ℕ → Answer Bool
-isBuffer8 t a n = asks t (a ∷ []) (ranged (ltb n 13)) (same (tyAt (t .columns) a) (buffer n))
+isBuffer8 t a n = asks t (a ∷ []) (ranged (ltb n 13)) (same (typeAt t a) (buffer n))
 
 -- `is_ctx8`: the type is the hash state's.
 abbrev pub isCtx8 : Table → ℕ → Answer Bool
-isCtx8 t a = asks t (a ∷ []) [] (same (tyAt (t .columns) a) ctx8)
+isCtx8 t a = asks t (a ∷ []) [] (same (typeAt t a) ctx8)

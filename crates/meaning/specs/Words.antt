@@ -3,10 +3,10 @@
 --   two word                    2 is unit + unit; the next word type is the square of the last
 --   wordWidths                  the thirty-two word widths, in one fixed list
 --   isWord asWord               a type is word n; the n of a word type, or 32 where it is none
---   wordBits                    the bits of a word: those of its number, or of its bytes
 --   exponent                    the k of a length 2^k, or 29 where it is none or longer than any word
 --   joins                       two words of one type and the next word
---   buffer bufferBits           the buffer types, and a buffer that holds data
+--   segment buffer              the buffer types
+--   bufferBits                  a buffer that holds data
 --   ctx8 HashState ctx8Bits     the hash state
 use Prim.Native.Nat.{ℕ, zero, suc, _+_, _*_, _/_, _^_}
 use mathlib.Core.Bool.{Bool, true, false, cond, _&&_}
@@ -78,7 +78,7 @@ bufferBits (suc n) bytes = segmentBits (suc n) bytes ++ bufferBits n (afterSegme
 unfoldable pub ctx8 : Ty
 ctx8 = prod (buffer 5) (prod (word 6) (word 8))
 
--- A hash state: midstate bytes, a count, buffered bytes of which the first so many are used.
+-- A hash state: 32 midstate bytes, a count, 63 buffered bytes of which the first so many are used. The struct's arrays have these lengths.
 pub record HashState : Type 0 where
   pub midstate : List ℕ
   pub counted : ℕ
