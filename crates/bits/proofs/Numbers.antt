@@ -11,16 +11,15 @@
 use mathlib.Core.Path.{_≡_, refl, sym, ap, ap₂, _∙_, subst}
 use mathlib.Core.Bool.{Bool, true, false}
 use mathlib.Core.List.{List, [], _∷_, _++_}
-use Prim.Native.Nat.{ℕ, zero, suc, _+_, _-_, _*_, _/_, _%_, _^_, _≤_, _<_}
-use native.Mathlib.Nat.{zero-add, suc-add, add-suc, add-comm, mod-lt, mod-eq-of-lt, zero-lt-suc, not-suc-le-zero, zero-mul, one-mul, two-pow-succ, zero-div, mul-comm}
+use Prim.Native.Nat.{ℕ, zero, suc, _+_, _-_, _*_, _/_, _%_, _^_, _<_}
+use native.Mathlib.Nat.{zero-add, suc-add, add-suc, add-comm, mod-lt, mod-eq-of-lt, zero-lt-suc, zero-mul, one-mul, two-pow-succ}
 use native.Mathlib.Omega.{arith}
 use native.Mathlib.Numerals.{add-one, one-add}
-use lib.ListN.{length, getD, set, length-append}
-use lib.Seq.{set-at, getD-append-add}
+use lib.ListN.{length, getD, set}
+use lib.Seq.{set-at}
 use lib.Pow.{pow-pos, pow-add, shr-shr, field, mod-mod-pow, mod-pow-add, shr-lt, high, low, split}
 use lib.Arith.{digits-lt}
 use lib.Dec.{eqb}
-use borrow.Author.Tests.{eq-eqb, ne-eqb}
 use Rattle.meaning.specs.Bits.{odd, toBits, bit, value}
 
 -- The lowest bit depends on the number modulo 2 alone.
@@ -125,7 +124,10 @@ put-below m k n b h =
     let up : n / 2 ^ k < 2 ^ suc m = shr-lt (suc m) k (subst (λ (i : ℕ). n < 2 ^ i) (sym e) h) in
     subst (λ (z : ℕ). (2 * (n / 2 ^ k / 2) + bit b) * 2 ^ k + n % 2 ^ k < z)
     (sym (pow-add 2 (suc m) k) ∙ ap (λ (i : ℕ). 2 ^ i) e)
-    (digits-lt (subst (λ (z : ℕ). 2 * (n / 2 ^ k / 2) + bit b < z) (sym (two-pow-succ m)) (even-below b (n / 2 ^ k) (2 ^ m) (omega (arith, two-pow-succ m)))) (mod-lt n (pow-pos k)))
+    (digits-lt
+    (subst (λ (z : ℕ). 2 * (n / 2 ^ k / 2) + bit b < z) (sym (two-pow-succ m))
+    (even-below b (n / 2 ^ k) (2 ^ m) (omega (arith, two-pow-succ m))))
+    (mod-lt n (pow-pos k)))
   where
     even-below : (c : Bool) (x t : ℕ) → x < t + t → 2 * (x / 2) + bit c < t + t
     even-below true x t l = omega arith

@@ -1,6 +1,6 @@
 -- Laws of `bitsOf`, the bits of bytes.
 --
---   length-bitsOf same-length         eight bits a byte, so lists of bytes with equal bits are equally long
+--   length-bitsOf length-by-bits      eight bits a byte, so bytes with equally many bits are equally many
 --   getD-bitsOf set-bitsOf            one bit, and one bit set
 --   bitsOf-append take-bitsOf drop-bitsOf
 --   tail part part-lent               the bits from bit o on, in the bytes from byte o / 8 on
@@ -9,12 +9,11 @@
 --   are-bytes                         what the checker knows of a lent slice of u8, as `Bytes`
 --   bytes-append bytes-drop bytes-take
 use mathlib.Core.Path.{_≡_, refl, sym, ap, ap₂, _∙_, subst}
-use mathlib.Core.Bool.{Bool, true, false}
+use mathlib.Core.Bool.{Bool, false}
 use mathlib.Core.List.{List, [], _∷_, _++_, append-assoc}
-use Prim.Native.Nat.{ℕ, zero, suc, _+_, _-_, _*_, _/_, _%_, _^_, _≤_, _<_, zero-le, suc-le-suc}
+use Prim.Native.Nat.{ℕ, zero, suc, _+_, _-_, _*_, _/_, _%_, _^_, _<_, zero-le, suc-le-suc}
 use native.Mathlib.Nat.{zero-div, le-of-eq, le-of-suc-le-suc}
 use native.Mathlib.Omega.{arith}
-use native.Mathlib.Numerals.{add-eight}
 use lib.ListN.{length, getD, set, take, drop, length-append, length-take, length-drop}
 use lib.Seq.{set-append-left, drop-drop, drop-cons, take-all, ext-getD, getD-drop, getD-take}
 use mir.Syntax.{w8}
@@ -32,8 +31,8 @@ unfolding bitsOf
 length-bitsOf [] = refl
 length-bitsOf (b ∷ s) = omega (arith, length-append (toBits 8 b) (bitsOf s), length-toBits 8 b, length-bitsOf s)
 
-pub same-length : (s t : List ℕ) → length (bitsOf s) ≡ length (bitsOf t) → length s ≡ length t
-same-length s t e = omega (arith, length-bitsOf s, length-bitsOf t)
+pub length-by-bits : (s t : List ℕ) → length (bitsOf s) ≡ length (bitsOf t) → length s ≡ length t
+length-by-bits s t e = omega (arith, length-bitsOf s, length-bitsOf t)
 
 pub getD-bitsOf : (s : List ℕ) (at : ℕ) → getD (bitsOf s) at false ≡ odd (getD s (at / 8) 0 / 2 ^ (7 - at % 8))
 unfolding bitsOf toBits odd
@@ -125,7 +124,7 @@ byte-bits s i h =
 
 pub bitsOf-injective : (s t : List ℕ) → Bytes s → Bytes t → bitsOf s ≡ bitsOf t → s ≡ t
 bitsOf-injective s t hs ht e =
-    let l : length s ≡ length t = same-length s t (ap length e) in
+    let l : length s ≡ length t = length-by-bits s t (ap length e) in
     ext-getD 0 s t l
     (λ i h.
     let k : i < length t = omega arith in
@@ -150,4 +149,9 @@ bytes-drop k s hs =
 
 pub bytes-take : (k : ℕ) (s : List ℕ) → Bytes s → Bytes (take k s)
 bytes-take k s hs =
-    record { below = λ i h. subst (λ (x : ℕ). x < 256) (sym (getD-take k s i 0 (omega (arith, length-take k s)))) (hs .below i (omega (arith, length-take k s))) }
+    record {
+      below =
+          λ i h.
+          subst (λ (x : ℕ). x < 256) (sym (getD-take k s i 0 (omega (arith, length-take k s))))
+          (hs .below i (omega (arith, length-take k s)));
+    }

@@ -5,14 +5,15 @@
 --   length-written bitsOf-written bytes-written
 --   written-by-bits                       an output is known by its bits
 --   finished                              bits pasted at bit 0, and the rest of their last byte cleared
-use mathlib.Core.Path.{_≡_, refl, sym, ap, ap₂, _∙_, subst}
-use mathlib.Core.Bool.{Bool, true, false}
+use mathlib.Core.Path.{_≡_, refl, sym, ap, ap₂, _∙_}
+use mathlib.Core.Bool.{Bool, false}
 use mathlib.Core.List.{List, [], _∷_, _++_, append-assoc, append-nil}
-use Prim.Native.Nat.{ℕ, zero, suc, _+_, _-_, _*_, _/_, _^_, _≤_, _<_, zero-le}
+use Prim.Native.Nat.{ℕ, zero, suc, _+_, _-_, _*_, _^_, _≤_, _<_, zero-le}
 use native.Mathlib.Nat.{zero-add, sub-zero, zero-sub, suc-sub-suc, zero-div, le-of-suc-le-suc}
 use native.Mathlib.Decide.{decLe}
 use native.Mathlib.Omega.{arith}
-use lib.ListN.{length, getD, take, drop, length-append, length-drop, drop-of-length-le, take-append-drop, replicate-append-replicate, length-replicate}
+use lib.ListN.{length, getD, take, drop, length-append, length-drop, drop-of-length-le, take-append-drop}
+use lib.ListN.{length-replicate, replicate-append-replicate}
 use lib.Pow.{high}
 use lib.Seq.{paste, take-all}
 use Rattle.meaning.specs.Bits.{odd, toBits, bitsOf, zeros, room, bit, value, packTo, pack, written}
@@ -34,7 +35,9 @@ toBits-padded (suc k) [] = toBits-zero (suc k) ∙ ap zeros (sym (sub-zero (suc 
 toBits-padded (suc k) (b ∷ v) =
     ap₂ (λ (c : Bool) (r : List Bool). c ∷ r)
     (ap odd (high (bit b) k (value-below k v)) ∙ odd-bit b)
-    (toBits-lower k (bit b) (value k v) (value-below k v) ∙ toBits-padded k v ∙ ap (λ (j : ℕ). take k v ++ zeros j) (sym (suc-sub-suc k (length v))))
+    (toBits-lower k (bit b) (value k v) (value-below k v)
+    ∙ toBits-padded k v
+    ∙ ap (λ (j : ℕ). take k v ++ zeros j) (sym (suc-sub-suc k (length v))))
 
 -- ---- Packed bits
 

@@ -5,14 +5,15 @@
 --   paste-append              pasting v and then w after it is pasting v ++ w
 --   set-as-paste              setting one element is pasting a list of one
 --   paste-before paste-here paste-after         what is read before, in and after a part that was pasted
-use mathlib.Core.Path.{_≡_, refl, sym, ap, ap₂, _∙_, subst}
+use mathlib.Core.Path.{_≡_, sym, ap, ap₂, _∙_, subst}
 use mathlib.Core.List.{List, [], _∷_, _++_, append-assoc}
-use Prim.Native.Nat.{ℕ, zero, suc, _+_, _≤_, _<_}
+use Prim.Native.Nat.{ℕ, suc, _+_, _≤_, _<_}
 use native.Mathlib.Nat.{zero-add, add-assoc, le-refl, le-of-eq}
 use native.Mathlib.Numerals.{add-one}
 use native.Mathlib.Omega.{arith}
-use lib.ListN.{length, set, take, drop, length-append}
-use lib.Seq.{paste, take-paste, drop-paste, take-take, take-at, take-all, drop-at, drop-drop, length-take-le, set-split, append-snoc, take-append-add, take-append-le}
+use lib.ListN.{length, set, take, drop}
+use lib.Seq.{paste, take-paste, drop-paste, take-take, take-at, take-all, take-append-add, take-append-le}
+use lib.Seq.{drop-at, drop-drop, length-take-le, set-split, append-snoc}
 
 module _ {A : Type 0} where
   pub paste-take : (d : List A) (at : ℕ) (s : List A) (n : ℕ) → paste d at (take n s) n ≡ paste d at s n
@@ -21,14 +22,19 @@ module _ {A : Type 0} where
   pub paste-front : (d v : List A) (n : ℕ) → length v ≡ n → paste d 0 v n ≡ v ++ drop n d
   paste-front d v n e = ap₂ (λ (r : List A) (k : ℕ). r ++ drop k d) (take-all n v (le-of-eq e)) (zero-add n)
 
+  pub paste-after : (d : List A) (at : ℕ) (s : List A) (n k : ℕ) → at ≤ length d → n ≤ length s
+      → drop (at + n + k) (paste d at s n) ≡ drop (at + n + k) d
+  paste-after d at s n k h l =
+      sym (drop-drop k (at + n) (paste d at s n)) ∙ ap (drop k) (drop-paste d at s n h l) ∙ drop-drop k (at + n) d
+
   pub paste-append : (d : List A) (at : ℕ) (v : List A) (m : ℕ) (w : List A) (n : ℕ) → at ≤ length d → length v ≡ m
       → paste (paste d at v m) (at + m) w n ≡ paste d at (v ++ w) (m + n)
   paste-append d at v m w n h e =
       let l : m ≤ length v = omega arith in
-      ap₂ (λ (p q : List A). p ++ take n w ++ q)
-      (take-paste d at v m h l)
-      (sym (drop-drop n (at + m) (paste d at v m)) ∙ ap (drop n) (drop-paste d at v m h l) ∙ drop-drop n (at + m) d ∙ ap (λ (k : ℕ). drop k d) (add-assoc at m n))
-      ∙ ap (λ (r : List A). r ++ drop (at + (m + n)) d) (append-assoc (take at d) (take m v) (take n w) ∙ ap (λ (r : List A). take at d ++ r) both)
+      ap₂ (λ (p q : List A). p ++ take n w ++ q) (take-paste d at v m h l)
+      (paste-after d at v m n h l ∙ ap (λ (k : ℕ). drop k d) (add-assoc at m n))
+      ∙ ap (λ (r : List A). r ++ drop (at + (m + n)) d)
+      (append-assoc (take at d) (take m v) (take n w) ∙ ap (λ (r : List A). take at d ++ r) both)
     where
       both : take m v ++ take n w ≡ take (m + n) (v ++ w)
       both = ap (λ (r : List A). r ++ take n w) (take-all m v (le-of-eq e))
@@ -48,14 +54,10 @@ module _ {A : Type 0} where
       ∙ take-append-le k (take at d) (take n s ++ drop (at + n) d) t
       ∙ take-take k at d h
 
-  pub paste-here : (d : List A) (at : ℕ) (s : List A) (n : ℕ) → at ≤ length d → n ≤ length s → take n (drop at (paste d at s n)) ≡ take n s
+  pub paste-here : (d : List A) (at : ℕ) (s : List A) (n : ℕ) → at ≤ length d → n ≤ length s
+      → take n (drop at (paste d at s n)) ≡ take n s
   paste-here d at s n h l =
       ap (take n)
       (ap (drop at) (append-assoc (take at d) (take n s) (drop (at + n) d))
       ∙ drop-at (take at d) (take n s ++ drop (at + n) d) at (length-take-le at d h))
       ∙ take-at (take n s) (drop (at + n) d) n (length-take-le n s l)
-
-  pub paste-after : (d : List A) (at : ℕ) (s : List A) (n k : ℕ) → at ≤ length d → n ≤ length s
-      → drop (at + n + k) (paste d at s n) ≡ drop (at + n + k) d
-  paste-after d at s n k h l =
-      sym (drop-drop k (at + n) (paste d at s n)) ∙ ap (drop k) (drop-paste d at s n h l) ∙ drop-drop k (at + n) d

@@ -7,8 +7,8 @@
 --   order-agree order-above order-below       one more bit of two runs is compared for order
 use mathlib.Core.Path.{_≡_, refl, sym, ap, ap₂, _∙_}
 use mathlib.Core.Bool.{Bool, true, false, not, _&&_, Bool·beq}
-use mathlib.Core.List.{List, [], _∷_, _++_}
-use Prim.Native.Nat.{ℕ, zero, suc, _+_, _-_, _≤_, _<_, Ordering, Ordering·lt, Ordering·gt}
+use mathlib.Core.List.{List, [], _∷_}
+use Prim.Native.Nat.{ℕ, suc, _+_, _-_, _≤_, _<_, Ordering, Ordering·lt, Ordering·gt}
 use native.Mathlib.Nat.{add-zero, sub-zero}
 use native.Mathlib.Omega.{arith}
 use native.Mathlib.Numerals.{add-one}
@@ -16,7 +16,8 @@ use lib.ListN.{length, getD, set, take, drop}
 use lib.Seq.{paste, paste-suc, drop-cons}
 use Rattle.meaning.specs.Records.{sameBits, orderBit, orderBits}
 
-pub paste-step : (old v mid : List Bool) (at i : ℕ) (b : Bool) → at + i < length old → i < length v → mid ≡ paste old at v i → b ≡ getD v i false
+pub paste-step : (old v mid : List Bool) (at i : ℕ) (b : Bool) → at + i < length old → i < length v → mid ≡ paste old at v i
+    → b ≡ getD v i false
     → set mid (at + i) b ≡ paste old at v (i + 1)
 paste-step old v mid at i b ho hv em eb =
     ap₂ (λ (m : List Bool) (c : Bool). set m (at + i) c) em eb
@@ -88,7 +89,8 @@ module _ (v w : List Bool) (from at n i : ℕ) (x y : Bool) (hv : from + i < len
   pub same-differ : not (Bool·beq x y) ≡ true → sameBits (rest v from n i) (rest w at n i) ≡ false
   same-differ t = same-step ∙ both-differ x y (sameBits (rest v from n (i + 1)) (rest w at n (i + 1))) t
 
-  pub same-agree : not (Bool·beq x y) ≡ false → sameBits (rest v from n i) (rest w at n i) ≡ sameBits (rest v from n (i + 1)) (rest w at n (i + 1))
+  pub same-agree : not (Bool·beq x y) ≡ false
+      → sameBits (rest v from n i) (rest w at n i) ≡ sameBits (rest v from n (i + 1)) (rest w at n (i + 1))
   same-agree t = same-step ∙ both-agree x y (sameBits (rest v from n (i + 1)) (rest w at n (i + 1))) t
 
   pub order-agree : not (Bool·beq x y) ≡ false

@@ -13,13 +13,18 @@ use Rattle.bits.proofs.clear_bits.Statement.{statement}
 use Rattle.bits.proofs.clear_bits.Tie as tie
 
 abbrev Inv-loop : tie.InvT-loop
-Inv-loop dst₀ at n cleared₀ dst cleared = (cleared ≤ n) × (length dst ≡ length dst₀) × (bitsOf dst ≡ paste (bitsOf dst₀) at (zeros n) cleared)
+Inv-loop dst₀ at n cleared₀ dst cleared =
+    (cleared ≤ n)
+    × (length dst ≡ length dst₀)
+    × (bitsOf dst ≡ paste (bitsOf dst₀) at (zeros n) cleared)
 
 abbrev μ-loop : tie.MeasureT-loop
 μ-loop dst₀ at n cleared₀ dst cleared = n - cleared
 
 loop-holds : tie.Need-loop-holds Inv-loop μ-loop
-loop-holds c = let a = c .before .args in (search needs, refl, paste-zero (bitsOf (a .dst .now)) (a .at) (zeros (a .n)))
+loop-holds c =
+    let a = c .before .args in
+    (search needs, refl, paste-zero (bitsOf (a .dst .now)) (a .at) (zeros (a .n)))
 
 add-put-bit : tie.Need-add-put-bit Inv-loop μ-loop
 add-put-bit c = search needs

@@ -13,13 +13,18 @@ use Rattle.bits.proofs.copy_bits.Statement.{statement}
 use Rattle.bits.proofs.copy_bits.Tie as tie
 
 abbrev Inv-loop : tie.InvT-loop
-Inv-loop src from dst₀ at n copied₀ dst copied = (copied ≤ n) × (length dst ≡ length dst₀) × (bitsOf dst ≡ paste (bitsOf dst₀) at (drop from (bitsOf src)) copied)
+Inv-loop src from dst₀ at n copied₀ dst copied =
+    (copied ≤ n)
+    × (length dst ≡ length dst₀)
+    × (bitsOf dst ≡ paste (bitsOf dst₀) at (drop from (bitsOf src)) copied)
 
 abbrev μ-loop : tie.MeasureT-loop
 μ-loop src from dst₀ at n copied₀ dst copied = n - copied
 
 loop-holds : tie.Need-loop-holds Inv-loop μ-loop
-loop-holds c = let a = c .before .before .args in (search needs, refl, paste-zero (bitsOf (a .dst .now)) (a .at) (drop (a .from) (bitsOf (a .src .now))))
+loop-holds c =
+    let a = c .before .before .args in
+    (search needs, refl, paste-zero (bitsOf (a .dst .now)) (a .at) (drop (a .from) (bitsOf (a .src .now))))
 
 add-put-bit : tie.Need-add-put-bit Inv-loop μ-loop
 add-put-bit c = search needs

@@ -13,7 +13,9 @@ use Rattle.bits.proofs.order_bits.Statement.{statement}
 use Rattle.bits.proofs.order_bits.Tie as tie
 
 abbrev Inv-loop : tie.InvT-loop
-Inv-loop a from b at n same₀ same = (same ≤ n) × (orderBits (take n (drop from (bitsOf a))) (take n (drop at (bitsOf b))) ≡ orderBits (rest (bitsOf a) from n same) (rest (bitsOf b) at n same))
+Inv-loop a from b at n same₀ same =
+    (same ≤ n)
+    × (orderBits (take n (drop from (bitsOf a))) (take n (drop at (bitsOf b))) ≡ orderBits (rest (bitsOf a) from n same) (rest (bitsOf b) at n same))
 
 abbrev μ-loop : tie.MeasureT-loop
 μ-loop a from b at n same₀ same = n - same

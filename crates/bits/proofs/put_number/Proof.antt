@@ -14,13 +14,18 @@ use Rattle.bits.proofs.put_number.Statement.{statement}
 use Rattle.bits.proofs.put_number.Tie as tie
 
 abbrev Inv-loop : tie.InvT-loop
-Inv-loop dst₀ at x n put₀ dst put = (put ≤ n) × (length dst ≡ length dst₀) × (bitsOf dst ≡ paste (bitsOf dst₀) at (toBits n x) put)
+Inv-loop dst₀ at x n put₀ dst put =
+    (put ≤ n)
+    × (length dst ≡ length dst₀)
+    × (bitsOf dst ≡ paste (bitsOf dst₀) at (toBits n x) put)
 
 abbrev μ-loop : tie.MeasureT-loop
 μ-loop dst₀ at x n put₀ dst put = n - put
 
 loop-holds : tie.Need-loop-holds Inv-loop μ-loop
-loop-holds c = let a = c .before .args in (search needs, refl, paste-zero (bitsOf (a .dst .now)) (a .at) (toBits (a .n) (a .x)))
+loop-holds c =
+    let a = c .before .args in
+    (search needs, refl, paste-zero (bitsOf (a .dst .now)) (a .at) (toBits (a .n) (a .x)))
 
 add-put-bit : tie.Need-add-put-bit Inv-loop μ-loop
 add-put-bit c = search needs

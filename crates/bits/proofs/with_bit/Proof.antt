@@ -65,7 +65,7 @@ shl-low : tie.Need-shl-low
 shl-low c = search needs
 
 sub-low : tie.Need-sub-low
-sub-low c = omega (arith, split (c .args .x) (c .args .k), kept (c .args .x) (c .args .k) (c .args .b) (c .fits .x .fits) (c .pre))
+sub-low c = let a = c .args in omega (arith, split (a .x) (a .k), kept (a .x) (a .k) (a .b) (c .fits .x .fits) (c .pre))
 
 sub-result : tie.Need-sub-result
 sub-result c = search needs
@@ -74,7 +74,7 @@ cast-result : tie.Need-cast-result
 cast-result c = search needs
 
 add-result : tie.Need-add-result
-add-result c = record { fits = next-fits (c .args .x) (c .args .k) (c .args .b) (c .fits .x .fits) (c .pre) }
+add-result c = let a = c .args in record { fits = next-fits (a .x) (a .k) (a .b) (c .fits .x .fits) (c .pre) }
 
 cast-result-2 : tie.Need-cast-result-2
 cast-result-2 c = search needs
@@ -83,10 +83,14 @@ shl-result : tie.Need-shl-result
 shl-result c = search needs
 
 add-result-2 : tie.Need-add-result-2
-add-result-2 c = omega (arith, sum-is (c .args .x) (c .args .k) (c .args .b) (c .fits .x .fits) (c .pre), put-fits (c .args .x) (c .args .k) (c .args .b) (c .fits .x .fits) (c .pre))
+add-result-2 c =
+    let a = c .args in
+    omega (arith, sum-is (a .x) (a .k) (a .b) (c .fits .x .fits) (c .pre), put-fits (a .x) (a .k) (a .b) (c .fits .x .fits) (c .pre))
 
 returns : tie.Need-returns
-returns c = ap (toBits 8) (sum-is (c .args .x) (c .args .k) (c .args .b) (c .fits .x .fits) (c .pre)) ∙ right (c .args .x) (c .args .k) (c .args .b) (c .fits .x .fits) (c .pre)
+returns c =
+    let a = c .args in
+    ap (toBits 8) (sum-is (a .x) (a .k) (a .b) (c .fits .x .fits) (c .pre)) ∙ right (a .x) (a .k) (a .b) (c .fits .x .fits) (c .pre)
 
 pub with-bit-spec : {M : Type 1} → statement M
 with-bit-spec =
