@@ -15,12 +15,14 @@
 //! * `library`: a request for any call of the port, and its answer
 //! * `model`: the port's rules, slow and plain: every call with its refusals
 //! * `published`: the crate's text asked for the same answers, where it has one
+//! * `agreement`: whether the text says what the rules say, or which listed difference explains it
 //! * `supply`: types, tables and random numbers for whoever asks
 
 // `value.rs` says `use hashes::sha256` and `use hex::DisplayHex`: both names lead back to this crate.
 extern crate self as hashes;
 extern crate self as hex;
 
+pub mod agreement;
 pub mod bit_encoding;
 #[allow(dead_code)]
 pub mod dag;

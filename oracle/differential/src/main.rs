@@ -11,8 +11,9 @@ mod sweeps;
 #[cfg(feature = "archive")]
 mod archive;
 
+use oracle::agreement::Listed;
 use oracle::library::{Call, Library};
-use run::{Listed, Run};
+use run::Run;
 use std::time::Instant;
 
 /// What the command line asks for.

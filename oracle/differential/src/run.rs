@@ -3,37 +3,13 @@
 //! * the archive against the model: result, accepted values, position, output bytes and columns, all of them
 //! * the crate's text against the model, where the text has an answer
 //!
-//! A difference between text and model is counted as listed only if it is one of `Listed`, and then only if the
-//! text answers exactly what that entry predicts.
+//! What counts as agreement, and which differences are listed, is `oracle::agreement`'s to say.
 
+use oracle::agreement::{self, Listed, Verdict};
 use oracle::library::{Answer, Call, Library, Request};
 use oracle::model::Model;
-use oracle::published::{Published, Said};
-use std::cmp::Ordering;
+use oracle::published::Published;
 use std::fmt::Write;
-
-/// The differences between rules and text that a run may meet, by the titles of DIFFERENCES-FOUND.md.
-#[derive(Clone, Copy, PartialEq, Eq, Debug)]
-pub enum Listed {
-    /// Equality and order read the bits after the record, up to the end of its last byte.
-    NeighbourBits,
-    /// Values of different types are ordered by Merkle root.
-    OrderOfTypes,
-    /// After an early end the crate's iterator has moved.
-    MovedIterator,
-}
-
-impl Listed {
-    pub const ALL: [Listed; 3] = [Listed::NeighbourBits, Listed::OrderOfTypes, Listed::MovedIterator];
-
-    pub fn title(self) -> &'static str {
-        match self {
-            Listed::NeighbourBits => "equality and order read the neighbour's bits in the last byte",
-            Listed::OrderOfTypes => "values of different types are ordered by Merkle root",
-            Listed::MovedIterator => "the iterator has moved after an early end",
-        }
-    }
-}
 
 /// Counts of one call.
 #[derive(Clone, Debug, Default)]
@@ -85,8 +61,11 @@ impl<'l> Run<'l> {
     /// Asks a request of everybody. Answers with the model's answer.
     pub fn check(&mut self, q: &Request) -> &Answer {
         self.check_archive(q);
-        if matches!(self.expected.number(), 0 | 6 | 7 | 8) {
-            self.check_text(q);
+        let verdict = agreement::judge(&self.published, q, &self.expected);
+        self.count_text(q, verdict);
+        if self.expected.code == 0 && matches!(q.call, Call::Equal | Call::Compare) {
+            let verdict = agreement::judge_in_place(&self.published, q, &self.expected);
+            self.count_text(q, verdict);
         }
         &self.expected
     }
@@ -117,96 +96,17 @@ impl<'l> Run<'l> {
         self.show(q, "a definition", what, "otherwise");
     }
 
-    fn check_text(&mut self, q: &Request) {
-        let said = self.published.ask(q);
-        if said == Said::Nothing {
-            return;
-        }
-        self.tallies[q.call.number()].text += 1;
-        match self.agrees(q, &said) {
-            Ok(()) => {}
-            Err(Some(listed)) => self.listed[listed as usize] += 1,
-            Err(None) => {
-                self.tallies[q.call.number()].text_differs += 1;
+    fn count_text(&mut self, q: &Request, verdict: Verdict) {
+        let tally = &mut self.tallies[q.call.number()];
+        tally.text += u64::from(verdict != Verdict::NoAnswer);
+        match verdict {
+            Verdict::NoAnswer | Verdict::Agrees => {}
+            Verdict::Differs(listed) => self.listed[listed as usize] += 1,
+            Verdict::Beyond(said) => {
+                tally.text_differs += 1;
                 let expected = short(&self.expected);
-                self.show(q, "the crate's text", &format!("{said:?}"), &expected);
+                self.show(q, "the crate's text", &said, &expected);
             }
-        }
-        if self.expected.code == 0 {
-            match q.call {
-                Call::Equal | Call::Compare => self.check_in_place(q),
-                _ => {}
-            }
-        }
-    }
-
-    /// Ok, or the listed difference that explains what the text said, or none.
-    fn agrees(&self, q: &Request, said: &Said) -> Result<(), Option<Listed>> {
-        let expected = &self.expected;
-        let accepted = &expected.values[..q.call.value_count().min(expected.values.len())];
-        let same = |equal: bool| if equal { Ok(()) } else { Err(None) };
-        if expected.code != 0 {
-            return same(*said == Said::Refuses);
-        }
-        match said {
-            Said::Nothing => Ok(()),
-            Said::Refuses => Err(None),
-            Said::Values(values) => match q.call {
-                Call::FactsOf => {
-                    same(values[..] == [accepted[0], accepted[2], accepted[3]])
-                }
-                Call::Compare if values[..] != *accepted => {
-                    let other_types = !self.same_class(q);
-                    Err((other_types && values[0] != 1).then_some(Listed::OrderOfTypes))
-                }
-                _ => same(values[..] == *accepted),
-            },
-            Said::Bits(bytes, count) => match q.call {
-                Call::AsLeft | Call::AsRight | Call::AsProduct => {
-                    same(self.viewed(q) == first_bits(bytes, *count))
-                }
-                _ => same(expected.out[..bytes.len()] == bytes[..] && accepted[0] == *count),
-            },
-            Said::Read(bytes, _, read) => {
-                same(expected.out[..bytes.len()] == bytes[..] && expected.position == q.stream.position + read)
-            }
-        }
-    }
-
-    fn same_class(&self, q: &Request) -> bool {
-        q.table.classes[q.a.node as usize] == q.table.classes[q.b.node as usize]
-    }
-
-    /// The bits that the model's views show, one view after the other.
-    fn viewed(&self, q: &Request) -> Vec<bool> {
-        let mut bits = Vec::new();
-        for view in self.expected.values[..q.call.value_count()].chunks_exact(2) {
-            let end = view[0] + q.table.widths[view[1] as usize];
-            bits.extend((view[0]..end).map(|i| bit(q.a.bytes, i)));
-        }
-        bits
-    }
-
-    /// Equality and order of the records where they stand. The text must answer what whole last bytes give.
-    fn check_in_place(&mut self, q: &Request) {
-        let (equal, order) = self.published.compare_in_place(q);
-        self.tallies[q.call.number()].text += 1;
-        let by_bytes = whole_bytes(q, true).cmp(&whole_bytes(q, false));
-        let (said, rule, predicted) = match q.call {
-            Call::Equal => {
-                let predicted = self.same_class(q) && by_bytes == Ordering::Equal;
-                (u64::from(equal), self.expected.values[0], u64::from(predicted))
-            }
-            _ if self.same_class(q) => {
-                ((order as i8 + 1) as u64, self.expected.values[0], (by_bytes as i8 + 1) as u64)
-            }
-            _ => return,
-        };
-        if said != predicted {
-            self.tallies[q.call.number()].text_differs += 1;
-            self.show(q, "the text in place", &said.to_string(), &predicted.to_string());
-        } else if said != rule {
-            self.listed[Listed::NeighbourBits as usize] += 1;
         }
     }
 
@@ -238,24 +138,6 @@ impl<'l> Run<'l> {
             println!("    {}", clipped(&format!("{q:?}"), 900));
         }
     }
-}
-
-fn bit(bytes: &[u8], i: u64) -> bool {
-    bytes[(i / 8) as usize] >> (7 - i % 8) & 1 == 1
-}
-
-fn first_bits(bytes: &[u8], count: u64) -> Vec<bool> {
-    (0..count).map(|i| bit(bytes, i)).collect()
-}
-
-/// A record's bits and those after it up to a whole number of bytes, as they lie; zero past the end of the bytes
-/// and past the sixteen bits that the crate's value is given of them.
-fn whole_bytes(q: &Request, first: bool) -> Vec<bool> {
-    let record = if first { q.a } else { q.b };
-    let width = q.table.widths[record.node as usize];
-    let end = 8 * record.bytes.len() as u64;
-    let last = record.offset + width.next_multiple_of(8);
-    (record.offset..last).map(|i| i < end && bit(record.bytes, i)).collect()
 }
 
 fn short(answer: &Answer) -> String {

@@ -2,8 +2,8 @@
 //!
 //! Each export makes a request of its parameters, asks the model, and copies back what the answer changed.
 //!
-//! With the environment variable `QV_FAULT` set to a call's name, that call answers wrongly (its last output byte,
-//! accepted value or result is off by one): so a run can be seen to notice.
+//! With the environment variable `QV_FAULT` set to a call's name, or to `all`, that call answers wrongly (its last
+//! output byte, accepted value or result is off by one): so a run can be seen to notice.
 
 use oracle::library::{Answer, Call, Columns, Library, Record, Request, Stream};
 use oracle::model::Model;
@@ -18,7 +18,7 @@ fn ask(request: &Request) -> Answer {
     let mut answer = Answer::default();
     MODEL.with(|model| model.ask(request, &mut answer));
     FAULT.with(|fault| {
-        if fault.as_deref() == Some(request.call.name()) {
+        if fault.as_deref().is_some_and(|name| name == "all" || name == request.call.name()) {
             spoil(&mut answer);
         }
     });

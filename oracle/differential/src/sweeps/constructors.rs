@@ -8,7 +8,7 @@ use oracle::supply::{trees_up_to, Random};
 
 pub fn sweep(run: &mut Run, size: &Size) {
     let mut random = size.random(50);
-    let trees = trees_up_to(size.pick(3, 5) as usize);
+    let trees = trees_up_to(size.pick(4, 5) as usize);
     for (number, tree) in trees.iter().enumerate() {
         let alone = super::alone(tree, number % 2 == 0);
         let table = &alone.table;

@@ -1,7 +1,7 @@
 //! Cuts: every record of every small type to every small target.
 //!
 //! The full form takes every type of up to five inner nodes against every target of up to five (2.6 million pairs
-//! of types); every record of the type is cut, padding and all. The quick form stops at three.
+//! of types); every record of the type is cut, padding and all. The quick form stops at four.
 
 use super::{before, placed, Size};
 use crate::run::Run;
@@ -11,7 +11,7 @@ use oracle::supply::{trees_up_to, TableMaker};
 pub fn sweep(run: &mut Run, size: &Size) {
     let mut random = size.random(60);
     let out = before(8);
-    let trees = trees_up_to(size.pick(3, 5) as usize);
+    let trees = trees_up_to(size.pick(4, 5) as usize);
     for (number, from) in trees.iter().enumerate() {
         for (target_number, to) in trees.iter().enumerate() {
             let mut maker = TableMaker::new();

@@ -18,7 +18,8 @@ pub fn sweep(run: &mut Run, size: &Size) {
     let out = before(70_000);
     for _ in 0..size.pick(150_000, 3_000_000) {
         let call = *random.pick(Call::ALL);
-        let kept = random.pick(&tables);
+        // One time in five the table with types past all limits.
+        let kept = if random.one_in(5) { tables.last().expect("some") } else { random.pick(&tables) };
         let mut table = kept.clone();
         let mut q = sound(&mut random, call, kept, &garbage, &out);
         let faults = random.below(5);

@@ -8,7 +8,7 @@ use oracle::supply::{trees_up_to, Random, TableMaker};
 
 pub fn sweep(run: &mut Run, size: &Size) {
     let mut random = size.random(30);
-    let trees = trees_up_to(size.pick(3, 5) as usize);
+    let trees = trees_up_to(size.pick(4, 5) as usize);
     for tree in &trees {
         let mut maker = TableMaker::new();
         let nodes = [maker.add_spread(tree), maker.add_spread(tree)];

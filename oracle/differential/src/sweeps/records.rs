@@ -10,7 +10,7 @@ const VIEWS: [Call; 3] = [Call::AsLeft, Call::AsRight, Call::AsProduct];
 pub fn sweep(run: &mut Run, size: &Size) {
     let mut random = size.random(20);
     let out = before(16);
-    for (number, tree) in trees_up_to(size.pick(3, 5) as usize).iter().enumerate() {
+    for (number, tree) in trees_up_to(size.pick(4, 5) as usize).iter().enumerate() {
         let alone = super::alone(tree, number % 2 == 0);
         for pattern in 0..1u64 << alone.width {
             for offset in 0..64 {

@@ -9,7 +9,7 @@ use oracle::supply::trees_up_to;
 pub fn sweep(run: &mut Run, size: &Size) {
     let mut random = size.random(40);
     let out = before(8);
-    for (number, tree) in trees_up_to(size.pick(3, 5) as usize).iter().enumerate() {
+    for (number, tree) in trees_up_to(size.pick(4, 5) as usize).iter().enumerate() {
         let alone = super::alone(tree, number % 2 == 1);
         let codes = all_codes(run, &alone.table, alone.node, alone.width);
         for length in 0..=alone.width + 1 {

@@ -6,7 +6,7 @@ use oracle::library::{Call, OwnedColumns, Request};
 use oracle::supply::{trees_up_to, Random, TableMaker};
 
 pub fn sweep(run: &mut Run, size: &Size) {
-    for tree in trees_up_to(size.pick(3, 5) as usize) {
+    for tree in trees_up_to(size.pick(4, 5) as usize) {
         for spread in [false, true] {
             let alone = super::alone(&tree, spread);
             for node in 0..alone.table.count {

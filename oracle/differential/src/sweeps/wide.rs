@@ -4,7 +4,7 @@ use super::{before, bytes_for, Size};
 use crate::run::Run;
 use oracle::library::{Call, OwnedColumns, Record, Request, Stream};
 use oracle::supply::{Random, TableMaker};
-use std::collections::HashMap;
+use std::collections::{BTreeMap, HashMap};
 
 pub fn sweep(run: &mut Run, size: &Size) {
     let mut random = size.random(90);
@@ -24,7 +24,7 @@ fn one_table(run: &mut Run, random: &mut Random, most: u64, picks: usize) {
     let mut facts = Facts::default();
     grow(&mut maker, &mut facts, random, most);
     let grown = maker.count();
-    let mut targets = HashMap::new();
+    let mut targets = BTreeMap::new();
     for _ in 0..4 {
         let node = (grown - 1 - random.below(grown.min(12) as u64) as usize) as u16;
         let mut seen = HashMap::new();
@@ -38,8 +38,8 @@ fn one_table(run: &mut Run, random: &mut Random, most: u64, picks: usize) {
         let node = if random.one_in(2) { random.below(grown as u64) } else { grown as u64 - 1 - random.below(grown.min(12) as u64) };
         every_call(run, random, &table, node, &targets);
     }
-    for (node, _) in targets.clone() {
-        every_call(run, random, &table, node, &targets);
+    for node in targets.keys() {
+        every_call(run, random, &table, *node, &targets);
     }
 }
 
@@ -109,7 +109,7 @@ fn shrink(maker: &mut TableMaker, random: &mut Random, node: u16, seen: &mut Has
 }
 
 /// Every call on a record of `node`.
-fn every_call(run: &mut Run, random: &mut Random, table: &OwnedColumns, node: u64, targets: &HashMap<u64, u64>) {
+fn every_call(run: &mut Run, random: &mut Random, table: &OwnedColumns, node: u64, targets: &BTreeMap<u64, u64>) {
     let width = table.widths[node as usize].min(530_000);
     let offset = random.below(64);
     let after = random.below(2) as usize;
@@ -223,6 +223,6 @@ fn at_the_limits(run: &mut Run, random: &mut Random) {
     let wide_and_large = maker.push(2, hollow_over, over);
     let table = maker.finish();
     for node in [word, no_word, sum_at_limit, over, sum_over, hollow, hollow_over, wide_and_large] {
-        every_call(run, random, &table, node.into(), &HashMap::new());
+        every_call(run, random, &table, node.into(), &BTreeMap::new());
     }
 }

@@ -1,0 +1,23 @@
+-- `gate::record` meets its contract: one record asked twice is asked once. Assumes nothing.
+use borrow.Author.Needs.{needs}
+use mathlib.Core.Path.{_∙_, sym}
+use Rattle.meaning.specs.Tables.{Table, table}
+use Rattle.meaning.specs.Ladder.{record-of}
+use Rattle.gate.proofs.Once.{one-record}
+use Rattle.gate.proofs.record.Statement.{statement}
+use Rattle.gate.proofs.record.Tie as tie
+
+-- The table that the columns make.
+abbrev of : tie.Start → Table
+of c =
+    table (c .args .kinds .now) (c .args .lefts .now) (c .args .rights .now) (c .args .widths .now) (c .args .sizes .now)
+    (c .args .padded .now) (c .args .classes .now) (c .args .count)
+
+two-to-requires : tie.Need-two-to-requires
+two-to-requires c κs = search needs
+
+returns : tie.Need-returns
+returns c = let s = c .before .before .before .before .before .before .before .before .before in c .two-to .ensures ∙ one-record (of s) (record-of (s .args .bytes .now) (s .args .offset) (s .args .node))
+
+pub record-spec : {M : Type 1} → statement M
+record-spec = tie.close (tie.spec two-to-requires returns)
