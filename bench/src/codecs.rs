@@ -8,7 +8,12 @@ use std::hint::black_box;
 
 pub fn run(effort: Effort) {
     for subject in [word_19(), padded(), small()] {
-        head(&format!("{}: {} bits, table of {} nodes checked in every call", subject.name, subject.width(), subject.table.len()));
+        head(&format!(
+            "{}: {} bits, table of {} nodes checked in every call",
+            subject.name,
+            subject.width(),
+            subject.table.len()
+        ));
         compare(&subject);
         measure(effort, &subject);
     }

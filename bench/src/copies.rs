@@ -8,7 +8,7 @@ use crate::copy_bits::copy_bits;
 use crate::measure::Effort;
 use crate::subjects::copies;
 use oracle::supply::Random;
-use quelomavunt::{Record, raw};
+use quelomavunt::{raw, Record};
 use std::hint::black_box;
 
 const BITS: usize = 8 * 60 * 1024;
@@ -18,7 +18,9 @@ pub fn run(effort: Effort) {
     let source = Random::new(7).bytes(BITS / 8 + 2);
     let left_bytes = [0u8; 2];
     let mut out = vec![0; BITS / 8 + 4];
-    println!("\ncopies of 60 KiB, from bit s (down) to bit d (across) of a byte: ratio of the crate's copy_bits to ours");
+    println!(
+        "\ncopies of 60 KiB, from bit s (down) to bit d (across) of a byte: ratio of the crate's copy_bits to ours"
+    );
     println!("      d=0     d=1     d=2     d=3     d=4     d=5     d=6     d=7");
     let mut ratios = Vec::new();
     let mut aligned = Vec::new();
@@ -41,7 +43,11 @@ pub fn run(effort: Effort) {
             let text = effort.best(|| copy_bits(black_box(&source), s, black_box(&mut target), d, BITS));
             let ratio = text / ours;
             row += &format!(" {ratio:>7.2}");
-            if s == d { aligned.push(ratio) } else { ratios.push(ratio) }
+            if s == d {
+                aligned.push(ratio)
+            } else {
+                ratios.push(ratio)
+            }
             best_times = (best_times.0.min(ours), best_times.1.min(text));
         }
         println!("{row}");

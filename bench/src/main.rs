@@ -6,8 +6,8 @@
 //! has no such check, and its types carry an interned number where the published crate computes a SHA-256 each time
 //! a value is built. Answers are compared before anything is timed.
 
-mod copies;
 mod codecs;
+mod copies;
 mod copy_bits;
 mod measure;
 mod subjects;
@@ -40,6 +40,7 @@ fn main() {
 /// The processor's name, if the system tells it.
 fn machine() -> String {
     let told = std::fs::read_to_string("/proc/cpuinfo").unwrap_or_default();
-    let name = told.lines().find_map(|line| line.strip_prefix("model name")).map(|rest| rest.trim_matches([' ', '\t', ':']));
+    let name =
+        told.lines().find_map(|line| line.strip_prefix("model name")).map(|rest| rest.trim_matches([' ', '\t', ':']));
     format!("{}, {}", name.unwrap_or("unnamed processor"), std::env::consts::ARCH)
 }

@@ -33,7 +33,7 @@ fn random(count: u64) -> TableMaker {
     maker.push(0, 0, 0);
     for node in 1..count {
         let (left, right) = (random.below(node) as u16, random.below(node) as u16);
-        maker.push(1 + (random.next() % 2) as u8, left, right);
+        maker.push(1 + (random.draw() % 2) as u8, left, right);
     }
     maker
 }

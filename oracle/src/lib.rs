@@ -25,6 +25,7 @@ extern crate self as hex;
 pub mod agreement;
 pub mod bit_encoding;
 #[allow(dead_code)]
+#[rustfmt::skip]
 pub mod dag;
 pub mod display_hex;
 pub mod library;
@@ -36,6 +37,7 @@ pub mod supply;
 pub mod tmr;
 pub mod types;
 #[allow(dead_code)]
+#[rustfmt::skip]
 pub mod value;
 
 pub use bit_encoding::{BitCollector, BitIter, EarlyEndOfStreamError};

@@ -93,8 +93,7 @@ impl Published {
         let after = (8 * record.bytes.len() as u64 - end).min(MOST_AFTER);
         let middle = Final::product(Arc::clone(ty), self.filler(after));
         let whole = Final::product(self.filler(before), middle);
-        let mut bits =
-            BitIter::window(record.bytes, (record.offset - before) as usize, (end + after) as usize);
+        let mut bits = BitIter::window(record.bytes, (record.offset - before) as usize, (end + after) as usize);
         let whole = Value::from_padded_bits(&mut bits, &whole).expect("the window is as wide as the type");
         let (_, middle) = whole.as_product().expect("a product");
         let (own, _) = middle.as_product().expect("a product");
@@ -214,9 +213,7 @@ impl Published {
                 };
                 joined.map_or(Said::Refuses, |word| made(word.as_value().shallow_clone()))
             }
-            Call::Buffer8TwoNPlusOne => {
-                Value::buffer8_two_n_plus_one(q.n as usize, q.data).map_or(Said::Refuses, made)
-            }
+            Call::Buffer8TwoNPlusOne => Value::buffer8_two_n_plus_one(q.n as usize, q.data).map_or(Said::Refuses, made),
             Call::Ctx8 => match <[u8; 32]>::try_from(q.data) {
                 Ok(midstate) => Value::ctx8(midstate, q.n, q.buffer).map_or(Said::Refuses, made),
                 Err(_) => Said::Nothing,
@@ -294,7 +291,7 @@ fn read(types: &[Arc<Final>], q: &Request) -> Said {
         Call::FromPaddedBits => Value::from_padded_bits(&mut bits, ty).ok(),
         Call::FromCompactBits => Value::from_compact_bits(&mut bits, ty).ok(),
         _ => {
-            if q.n <= 31 && !ty.as_word().is_some_and(|n| u64::from(n) == q.n) {
+            if q.n <= 31 && ty.as_word().map(u64::from) != Some(q.n) {
                 return Said::Refuses; // The crate is told n alone; the node is the port's.
             }
             let n = u32::try_from(q.n).unwrap_or(u32::MAX);
@@ -359,8 +356,9 @@ fn byte_array(data: &[u8]) -> Option<Option<Value>> {
 /// The roots that the constant lists name are those of the types built by the rules; asked once by the runs.
 pub fn lists_are_consistent() -> bool {
     let words = (0..32).all(|n| Final::two_two_n(n).expect("n below 32").tmr() == Tmr::TWO_TWO_N[n]);
-    let buffers = Tmr::BUFFER8_TWO_N_PLUS_ONE.iter().enumerate().all(|(n, root)| {
-        Final::buffer8_two_n_plus_one(n).expect("within the list").tmr() == *root
-    });
+    let buffers = Tmr::BUFFER8_TWO_N_PLUS_ONE
+        .iter()
+        .enumerate()
+        .all(|(n, root)| Final::buffer8_two_n_plus_one(n).expect("within the list").tmr() == *root);
     words && buffers
 }

@@ -69,7 +69,8 @@ fn d3_types_are_ordered_by_root_and_not_by_class() {
         maker.push(3 - first, 0, 0);
         let table = maker.finish();
         let node = |kind: u8| if kind == first { 1 } else { 2 };
-        let (a, b) = (Record { bytes: &[0], offset: 0, node: node(1) }, Record { bytes: &[0], offset: 0, node: node(2) });
+        let (a, b) =
+            (Record { bytes: &[0], offset: 0, node: node(1) }, Record { bytes: &[0], offset: 0, node: node(2) });
         rules(&Request { a, b, ..Request::new(Call::Compare, table.lend()) }).values[0]
     };
     assert_eq!((order(1), order(2)), (0, 2));

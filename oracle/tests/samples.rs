@@ -6,8 +6,7 @@ use oracle::model::Model;
 use oracle::published::Published;
 use oracle::supply::TableMaker;
 
-const TABLE_S: [u8; 29] =
-    [10, 0, 1, 0, 0, 2, 0, 0, 1, 0, 1, 2, 1, 1, 1, 1, 4, 1, 0, 0, 2, 5, 1, 1, 1, 0, 1, 1, 2];
+const TABLE_S: [u8; 29] = [10, 0, 1, 0, 0, 2, 0, 0, 1, 0, 1, 2, 1, 1, 1, 1, 4, 1, 0, 0, 2, 5, 1, 1, 1, 0, 1, 1, 2];
 
 /// The model's answer, with which the text agrees.
 fn both(q: &Request) -> Answer {
@@ -93,7 +92,8 @@ fn m12_and_the_second_buffer() {
     let mut maker = TableMaker::new();
     let (first, second) = (maker.buffer(0).into(), maker.buffer(1).into());
     let table = maker.finish();
-    let q = Request { data: &[0xA5], node: first, out: &[0; 4], ..Request::new(Call::Buffer8TwoNPlusOne, table.lend()) };
+    let q =
+        Request { data: &[0xA5], node: first, out: &[0; 4], ..Request::new(Call::Buffer8TwoNPlusOne, table.lend()) };
     let answer = both(&q);
     assert_eq!((answer.values[0], &answer.out[..2]), (9, &[0xD2, 0x80][..]));
     let answer = both(&Request { n: 1, data: &[0xFF], node: second, ..q });

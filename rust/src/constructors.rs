@@ -56,9 +56,7 @@ impl Table {
     /// # Ok::<(), quelomavunt::Refusal>(())
     /// ```
     pub fn product(&self, left: Record, right: Record, result: usize, out: &mut [u8]) -> Result<u64, Refusal> {
-        self.number(|width| {
-            raw::product(&self.columns(), &left.raw(), &right.raw(), result as u64, width, out)
-        })
+        self.number(|width| raw::product(&self.columns(), &left.raw(), &right.raw(), result as u64, width, out))
     }
 
     /// The left record of 1 + anything. Refuses: 2 to 4, 7, 9.

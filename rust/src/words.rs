@@ -157,9 +157,7 @@ impl Table {
     /// assert_eq!(out, [0xD2, 0x80]);
     /// # Ok::<(), quelomavunt::Refusal>(())
     /// ```
-    pub fn buffer8_two_n_plus_one(
-        &self, n: u64, data: &[u8], result: usize, out: &mut [u8],
-    ) -> Result<u64, Refusal> {
+    pub fn buffer8_two_n_plus_one(&self, n: u64, data: &[u8], result: usize, out: &mut [u8]) -> Result<u64, Refusal> {
         self.number(|width| raw::buffer8_two_n_plus_one(&self.columns(), n, data, result as u64, width, out))
     }
 

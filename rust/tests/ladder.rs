@@ -91,9 +91,12 @@ fn what_lies_past_the_count_is_not_looked_at() {
     }
 }
 
+/// A way to set one of a world's nodes.
+type SetNode = fn(&mut World, u64);
+
 /// The named nodes of a call, each as a way to set it; and whether it is the node of a record type.
-fn named(call: &Call) -> Vec<(fn(&mut World, u64), bool)> {
-    let mut list: Vec<(fn(&mut World, u64), bool)> = Vec::new();
+fn named(call: &Call) -> Vec<(SetNode, bool)> {
+    let mut list: Vec<(SetNode, bool)> = Vec::new();
     if call.records > 0 {
         list.push((|w, node| w.a.2 = node, true));
     }
@@ -304,12 +307,37 @@ fn numbers_and_lengths_outside_their_range_are_6() {
 fn wrong_shapes_are_7() {
     let find = |name: &str| calls().into_iter().find(|call| call.name == name).expect("a call of that name");
     for (name, node) in [
-        ("type_as_sum", PAIR), ("type_as_sum", UNIT), ("type_as_product", SUM), ("type_as_product", UNIT),
-        ("as_word", SUM), ("as_word", UNIT), ("as_word", PAIR), ("unit", BIT), ("left", PAIR), ("left", BUFFER),
-        ("right", BUFFER), ("right", BIT), ("product", SUM), ("product", BIT + 1), ("none", SUM), ("none", PAIR),
-        ("some", SUM), ("some", BIT), ("u1", BIT + 1), ("u2", BIT), ("u4", BYTE), ("u8", BYTE + 1), ("u16", BYTE),
-        ("u512", BYTE), ("word_product", BIT), ("word_product", SUM), ("word_from_bits", BIT),
-        ("buffer8_two_n_plus_one", BYTE), ("ctx8", BUFFER), ("prune", SUM), ("prune", BYTE),
+        ("type_as_sum", PAIR),
+        ("type_as_sum", UNIT),
+        ("type_as_product", SUM),
+        ("type_as_product", UNIT),
+        ("as_word", SUM),
+        ("as_word", UNIT),
+        ("as_word", PAIR),
+        ("unit", BIT),
+        ("left", PAIR),
+        ("left", BUFFER),
+        ("right", BUFFER),
+        ("right", BIT),
+        ("product", SUM),
+        ("product", BIT + 1),
+        ("none", SUM),
+        ("none", PAIR),
+        ("some", SUM),
+        ("some", BIT),
+        ("u1", BIT + 1),
+        ("u2", BIT),
+        ("u4", BYTE),
+        ("u8", BYTE + 1),
+        ("u16", BYTE),
+        ("u512", BYTE),
+        ("word_product", BIT),
+        ("word_product", SUM),
+        ("word_from_bits", BIT),
+        ("buffer8_two_n_plus_one", BYTE),
+        ("ctx8", BUFFER),
+        ("prune", SUM),
+        ("prune", BYTE),
     ] {
         let call = find(name);
         call.refuses(World { node, ..call.good_world() }, 7, 0, "another shape");

@@ -1,5 +1,7 @@
 -- The marked samples, computed, and the basic laws of the definitions.
+pub mod Sampling
 pub mod Samples
+pub mod Edges
 pub mod Tests
 pub mod Choices
 pub mod Types
@@ -7,3 +9,4 @@ pub mod Trees
 pub mod Ladders
 pub mod Sounds
 pub mod Records
+pub mod Words

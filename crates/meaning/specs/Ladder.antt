@@ -6,6 +6,7 @@
 --   Record Stream               bytes, offset and node; bytes, length and position, in bits
 --   typeAt typeOf               the type of a node, and of a record
 --   recordBits restOf           the own bits of a record; the bits of a stream from its position to its length
+--   widest largest              the limits of 3 and 4
 --   sound present small named within streamFits ranged shaped roomFor
 --                               the rungs that many calls share: 1; 2; 3 and 4; 1 to 4; 5; 5; 6; 7; 9
 --   makes made                  a call that writes bits: its answer and its output
@@ -86,10 +87,17 @@ sound t =
 abbrev pub present : Table → List ℕ → List Rung
 present t ns = rung (any (λ n. leb (t .count) n) ns) 2 0 ∷ []
 
+-- The widest record type, and the largest, that a call takes.
+abbrev pub widest : ℕ
+widest = 524288
+
+abbrev pub largest : ℕ
+largest = 2097152
+
 -- 3 and 4: a named record type is wider than 524,288 bits; its size is above 2,097,152.
 abbrev pub small : Table → List ℕ → List Rung
 small t ns =
-    rung (any (λ n. ltb 524288 (bits (tyAt (t .columns) n))) ns) 3 0 ∷ rung (any (λ n. ltb 2097152 (size (tyAt (t .columns) n))) ns) 4 0 ∷ []
+    rung (any (λ n. ltb widest (bits (tyAt (t .columns) n))) ns) 3 0 ∷ rung (any (λ n. ltb largest (size (tyAt (t .columns) n))) ns) 4 0 ∷ []
 
 -- 1 to 4, of all nodes that a call names as record types.
 abbrev pub named : Table → List ℕ → List Rung

@@ -110,7 +110,13 @@ fn report(run: &Run, asked: &Asked) -> bool {
             .collect();
         println!(
             "{:24} {:>10} {:>8} {:>10} {:>8} {:>10}  {}",
-            call.name(), t.archive, t.archive_differs, t.text, t.text_differs, t.accepted, refusals.join(" ")
+            call.name(),
+            t.archive,
+            t.archive_differs,
+            t.text,
+            t.text_differs,
+            t.accepted,
+            refusals.join(" ")
         );
         archive += t.archive;
         text += t.text;

@@ -99,7 +99,11 @@ fn write(file: &str) -> Result<(), String> {
         println!("{:24} {}", call.name(), recorder.by_call[call.number()]);
     }
     let [rules, both, listed] = recorder.by_word;
-    println!("{} cases, {} bytes: {rules} by the rules alone, {both} by rules and text, {listed} listed", recorder.count, bytes.len());
+    println!(
+        "{} cases, {} bytes: {rules} by the rules alone, {both} by rules and text, {listed} listed",
+        recorder.count,
+        bytes.len()
+    );
     match Call::ALL.iter().find(|call| recorder.by_call[call.number()] == 0) {
         Some(call) => Err(format!("no case of {}", call.name())),
         None => Ok(()),
@@ -371,7 +375,7 @@ fn special_table(r: &mut Recorder) {
         }
     }
     for length in [0, 1, 31, 62, 63, 64] {
-        let (midstate, buffer, n) = (random.bytes(32), random.bytes(length), random.next());
+        let (midstate, buffer, n) = (random.bytes(32), random.bytes(length), random.draw());
         let q = Request { data: &midstate, n, buffer: &buffer, node: state, ..Request::new(Ctx8, t) };
         r.case(&Request { out: &out[..105], ..q });
         r.case(&Request { out: &out[..103], ..q });
@@ -408,9 +412,7 @@ fn limits_table(r: &mut Recorder) {
 /// Table files, sound and not.
 fn files(r: &mut Recorder) {
     let columns = OwnedColumns::marked(COLUMNS);
-    let sample = [
-        10, 0, 1, 0, 0, 2, 0, 0, 1, 0, 1, 2, 1, 1, 1, 1, 4, 1, 0, 0, 2, 5, 1, 1, 1, 0, 1, 1, 2,
-    ];
+    let sample = [10, 0, 1, 0, 0, 2, 0, 0, 1, 0, 1, 2, 1, 1, 1, 1, 4, 1, 0, 0, 2, 5, 1, 1, 1, 0, 1, 1, 2];
     let mut list: Vec<Vec<u8>> = (0..=sample.len()).map(|end| sample[..end].to_vec()).collect();
     list.push([&sample[..], &[0]].concat());
     list.push([&sample[..], &[7, 7]].concat());
@@ -420,9 +422,26 @@ fn files(r: &mut Recorder) {
         list.push(changed);
     }
     for short in [
-        &[1u8, 0][..], &[0], &[0x80], &[0x80, 0], &[0x81, 0], &[0x81, 0x80, 0], &[0xFF, 0x7F], &[1, 1], &[1, 1, 0, 0],
-        &[1, 2, 0, 0], &[1, 3], &[1, 0x80], &[1, 0x80, 0], &[2, 0, 1, 0x80, 0, 0], &[2, 0, 1, 0, 1], &[2, 0, 2, 1, 0],
-        &[3, 0, 1, 0, 0, 2, 1, 1], &[1, 0, 0], &[0x80, 8], &[0x81, 8],
+        &[1u8, 0][..],
+        &[0],
+        &[0x80],
+        &[0x80, 0],
+        &[0x81, 0],
+        &[0x81, 0x80, 0],
+        &[0xFF, 0x7F],
+        &[1, 1],
+        &[1, 1, 0, 0],
+        &[1, 2, 0, 0],
+        &[1, 3],
+        &[1, 0x80],
+        &[1, 0x80, 0],
+        &[2, 0, 1, 0x80, 0, 0],
+        &[2, 0, 1, 0, 1],
+        &[2, 0, 2, 1, 0],
+        &[3, 0, 1, 0, 0, 2, 1, 1],
+        &[1, 0, 0],
+        &[0x80, 8],
+        &[0x81, 8],
     ] {
         list.push(short.to_vec());
     }

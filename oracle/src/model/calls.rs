@@ -121,8 +121,7 @@ fn facts_of(t: &Types, q: &Request, a: &mut Answer) -> Test {
     places(q.values, 7)?;
     let node = q.node as usize;
     let [kind, left, right] = kind_and_sides(t.shape(node));
-    let facts =
-        [t.width(node), t.size(node), u64::from(t.padded(node)), t.class(node) as u64, kind, left, right];
+    let facts = [t.width(node), t.size(node), u64::from(t.padded(node)), t.class(node) as u64, kind, left, right];
     a.values[..7].copy_from_slice(&facts);
     Ok(())
 }

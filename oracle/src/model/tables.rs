@@ -37,15 +37,8 @@ fn count_fits(count: u64, lengths: &[usize]) -> Result<usize, Refusal> {
 
 /// A table with facts: sound, or 1 at the first node whose entry or any fact is wrong.
 pub fn judge(t: &Columns) -> Result<Types, Refusal> {
-    let lengths = [
-        t.kinds.len(),
-        t.lefts.len(),
-        t.rights.len(),
-        t.widths.len(),
-        t.sizes.len(),
-        t.padded.len(),
-        t.classes.len(),
-    ];
+    let lengths =
+        [t.kinds.len(), t.lefts.len(), t.rights.len(), t.widths.len(), t.sizes.len(), t.padded.len(), t.classes.len()];
     let count = count_fits(t.count, &lengths)?;
     let mut types = Types::default();
     for node in 0..count {

@@ -4,6 +4,7 @@
 //! depends on what is missing here.
 
 #[allow(dead_code)]
+#[rustfmt::skip]
 pub mod final_data;
 pub(crate) mod precomputed;
 

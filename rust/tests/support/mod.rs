@@ -249,54 +249,332 @@ pub fn calls() -> Vec<Call> {
             names: Names::Nothing,
             ..QUESTION
         },
-        Call { name: "check_table", run: on!(w, |t, i, o| { let _ = (i, o); raw::check_table(t) }), names: Names::Nothing, ..QUESTION },
-        Call { name: "facts_of", run: on!(w, |t, i, o| raw::facts_of(t, i.node, &mut o.values)), values: 7, ..QUESTION },
-        Call { name: "same_type", run: on!(w, |t, i, o| raw::same_type(t, i.node, i.other, &mut o.value)), names: Names::TwoTypes, ..QUESTION },
+        Call {
+            name: "check_table",
+            run: on!(w, |t, i, o| {
+                let _ = (i, o);
+                raw::check_table(t)
+            }),
+            names: Names::Nothing,
+            ..QUESTION
+        },
+        Call {
+            name: "facts_of",
+            run: on!(w, |t, i, o| raw::facts_of(t, i.node, &mut o.values)),
+            values: 7,
+            ..QUESTION
+        },
+        Call {
+            name: "same_type",
+            run: on!(w, |t, i, o| raw::same_type(t, i.node, i.other, &mut o.value)),
+            names: Names::TwoTypes,
+            ..QUESTION
+        },
         Call { name: "is_unit", run: on!(w, |t, i, o| raw::is_unit(t, i.node, &mut o.value)), ..QUESTION },
         Call { name: "is_empty", run: on!(w, |t, i, o| raw::is_empty(t, i.node, &mut o.value)), ..QUESTION },
-        Call { name: "type_as_sum", run: on!(w, |t, i, o| raw::type_as_sum(t, i.node, &mut o.values)), good: |w| w.node = SUM, values: 2, ..QUESTION },
-        Call { name: "type_as_product", run: on!(w, |t, i, o| raw::type_as_product(t, i.node, &mut o.values)), good: |w| w.node = PAIR, values: 2, ..QUESTION },
-        Call { name: "pad_left", run: on!(w, |t, i, o| raw::pad_left(t, i.node, i.other, &mut o.value)), names: Names::TwoTypes, ..QUESTION },
-        Call { name: "pad_right", run: on!(w, |t, i, o| raw::pad_right(t, i.node, i.other, &mut o.value)), names: Names::TwoTypes, ..QUESTION },
-        Call { name: "as_word", run: on!(w, |t, i, o| raw::as_word(t, i.node, &mut o.value)), good: |w| w.node = BYTE, ..QUESTION },
-        Call { name: "word_width", run: |w| raw::word_width(w.n, &mut w.value), table: false, names: Names::Nothing, ..QUESTION },
-        Call { name: "buffer_width", run: |w| raw::buffer_width(w.n, &mut w.value), table: false, names: Names::Nothing, ..QUESTION },
+        Call {
+            name: "type_as_sum",
+            run: on!(w, |t, i, o| raw::type_as_sum(t, i.node, &mut o.values)),
+            good: |w| w.node = SUM,
+            values: 2,
+            ..QUESTION
+        },
+        Call {
+            name: "type_as_product",
+            run: on!(w, |t, i, o| raw::type_as_product(t, i.node, &mut o.values)),
+            good: |w| w.node = PAIR,
+            values: 2,
+            ..QUESTION
+        },
+        Call {
+            name: "pad_left",
+            run: on!(w, |t, i, o| raw::pad_left(t, i.node, i.other, &mut o.value)),
+            names: Names::TwoTypes,
+            ..QUESTION
+        },
+        Call {
+            name: "pad_right",
+            run: on!(w, |t, i, o| raw::pad_right(t, i.node, i.other, &mut o.value)),
+            names: Names::TwoTypes,
+            ..QUESTION
+        },
+        Call {
+            name: "as_word",
+            run: on!(w, |t, i, o| raw::as_word(t, i.node, &mut o.value)),
+            good: |w| w.node = BYTE,
+            ..QUESTION
+        },
+        Call {
+            name: "word_width",
+            run: |w| raw::word_width(w.n, &mut w.value),
+            table: false,
+            names: Names::Nothing,
+            ..QUESTION
+        },
+        Call {
+            name: "buffer_width",
+            run: |w| raw::buffer_width(w.n, &mut w.value),
+            table: false,
+            names: Names::Nothing,
+            ..QUESTION
+        },
         Call { name: "is_buffer8", run: on!(w, |t, i, o| raw::is_buffer8(t, i.n, i.node, &mut o.value)), ..QUESTION },
         Call { name: "is_ctx8", run: on!(w, |t, i, o| raw::is_ctx8(t, i.node, &mut o.value)), ..QUESTION },
-        Call { name: "as_left", run: on!(w, |t, i, o| raw::as_left(t, &a(i), &mut o.values)), good: |w| w.a = (vec![0b0001_0000], 1, SUM), values: 2, ..VIEW },
-        Call { name: "as_right", run: on!(w, |t, i, o| raw::as_right(t, &a(i), &mut o.values)), good: |w| w.a = (vec![0b0100_0000], 1, SUM), values: 2, ..VIEW },
-        Call { name: "as_product", run: on!(w, |t, i, o| raw::as_product(t, &a(i), &mut o.values)), good: |w| w.a.2 = PAIR, values: 4, ..VIEW },
+        Call {
+            name: "as_left",
+            run: on!(w, |t, i, o| raw::as_left(t, &a(i), &mut o.values)),
+            good: |w| w.a = (vec![0b0001_0000], 1, SUM),
+            values: 2,
+            ..VIEW
+        },
+        Call {
+            name: "as_right",
+            run: on!(w, |t, i, o| raw::as_right(t, &a(i), &mut o.values)),
+            good: |w| w.a = (vec![0b0100_0000], 1, SUM),
+            values: 2,
+            ..VIEW
+        },
+        Call {
+            name: "as_product",
+            run: on!(w, |t, i, o| raw::as_product(t, &a(i), &mut o.values)),
+            good: |w| w.a.2 = PAIR,
+            values: 4,
+            ..VIEW
+        },
         Call { name: "equal", run: on!(w, |t, i, o| raw::equal(t, &a(i), &b(i), &mut o.value)), records: 2, ..VIEW },
-        Call { name: "compare", run: on!(w, |t, i, o| raw::compare(t, &a(i), &b(i), &mut o.value)), records: 2, ..VIEW },
-        Call { name: "compact_len", run: on!(w, |t, i, o| raw::compact_len(t, &a(i), &mut o.value)), good: |w| w.a.2 = PAIR, ..VIEW },
-        Call { name: "padded_len", run: on!(w, |t, i, o| raw::padded_len(t, &a(i), &mut o.value)), good: |w| w.a.2 = PAIR, ..VIEW },
-        Call { name: "unit", run: on!(w, |t, i, o| raw::unit(t, i.node, &mut o.value, &mut o.out)), out: Some(0), ..MAKER },
-        Call { name: "left", run: on!(w, |t, i, o| raw::left(t, &a(i), i.node, &mut o.value, &mut o.out)), good: |w| w.node = SUM, records: 1, ..MAKER },
-        Call { name: "right", run: on!(w, |t, i, o| raw::right(t, &a(i), i.node, &mut o.value, &mut o.out)), good: |w| { w.node = SUM; w.a.2 = BIT + 1 }, records: 1, ..MAKER },
-        Call { name: "product", run: on!(w, |t, i, o| raw::product(t, &a(i), &b(i), i.node, &mut o.value, &mut o.out)), good: |w| { w.node = PAIR; w.a.2 = SUM }, records: 2, ..MAKER },
-        Call { name: "none", run: on!(w, |t, i, o| raw::none(t, i.node, &mut o.value, &mut o.out)), good: |w| w.node = BUFFER, out: Some(2), ..MAKER },
-        Call { name: "some", run: on!(w, |t, i, o| raw::some(t, &a(i), i.node, &mut o.value, &mut o.out)), good: |w| { w.node = BUFFER; w.a.2 = BYTE }, records: 1, out: Some(2), ..MAKER },
-        Call { name: "zero", run: on!(w, |t, i, o| raw::zero(t, i.node, &mut o.value, &mut o.out)), good: |w| w.node = PAIR, ..MAKER },
-        Call { name: "u1", run: on!(w, |t, i, o| raw::u1(t, i.n, i.node, &mut o.value, &mut o.out)), good: |w| w.node = BIT, ..MAKER },
-        Call { name: "u2", run: on!(w, |t, i, o| raw::u2(t, i.n, i.node, &mut o.value, &mut o.out)), good: |w| w.node = BIT + 1, ..MAKER },
-        Call { name: "u4", run: on!(w, |t, i, o| raw::u4(t, i.n, i.node, &mut o.value, &mut o.out)), good: |w| w.node = BIT + 2, ..MAKER },
-        Call { name: "u8", run: on!(w, |t, i, o| raw::u8(t, &i.data, i.node, &mut o.value, &mut o.out)), good: |w| word(1, w), out: Some(1), ..MAKER },
-        Call { name: "u16", run: on!(w, |t, i, o| raw::u16(t, &i.data, i.node, &mut o.value, &mut o.out)), good: |w| word(2, w), out: Some(2), ..MAKER },
-        Call { name: "u32", run: on!(w, |t, i, o| raw::u32(t, &i.data, i.node, &mut o.value, &mut o.out)), good: |w| word(4, w), out: Some(4), ..MAKER },
-        Call { name: "u64", run: on!(w, |t, i, o| raw::u64(t, &i.data, i.node, &mut o.value, &mut o.out)), good: |w| word(8, w), out: Some(8), ..MAKER },
-        Call { name: "u128", run: on!(w, |t, i, o| raw::u128(t, &i.data, i.node, &mut o.value, &mut o.out)), good: |w| word(16, w), out: Some(16), ..MAKER },
-        Call { name: "u256", run: on!(w, |t, i, o| raw::u256(t, &i.data, i.node, &mut o.value, &mut o.out)), good: |w| word(32, w), out: Some(32), ..MAKER },
-        Call { name: "u512", run: on!(w, |t, i, o| raw::u512(t, &i.data, i.node, &mut o.value, &mut o.out)), good: |w| word(64, w), out: Some(64), ..MAKER },
-        Call { name: "from_byte_array", run: on!(w, |t, i, o| raw::from_byte_array(t, &i.data, i.node, &mut o.value, &mut o.out)), good: |w| word(16, w), out: Some(16), ..MAKER },
-        Call { name: "word_product", run: on!(w, |t, i, o| raw::word_product(t, &a(i), &b(i), i.node, &mut o.value, &mut o.out)), good: |w| w.node = BIT + 1, records: 2, ..MAKER },
-        Call { name: "word_from_bits", run: |w| { let i = w.clone(); raw::word_from_bits(&i.table.columns(), &i.stream, i.length, &mut w.position, i.n, i.node, &mut w.out) }, good: |w| { w.n = 3; w.node = BYTE }, ..READER },
-        Call { name: "buffer8_two_n_plus_one", run: on!(w, |t, i, o| raw::buffer8_two_n_plus_one(t, i.n, &i.data, i.node, &mut o.value, &mut o.out)), good: |w| { w.node = BUFFER; w.data = vec![0xA5] }, out: Some(2), ..MAKER },
-        Call { name: "ctx8", run: on!(w, |t, i, o| raw::ctx8(t, &i.data, i.n, &i.buffer, i.node, &mut o.value, &mut o.out)), good: |w| { w.node = STATE; w.data = vec![7; 32]; w.buffer = vec![9; 63] }, out: Some(104), ..MAKER },
-        Call { name: "from_compact_bits", run: |w| { let i = w.clone(); raw::from_compact_bits(&i.table.columns(), &i.stream, i.length, &mut w.position, i.node, &mut w.out) }, good: |w| w.node = PAIR, ..READER },
-        Call { name: "from_padded_bits", run: |w| { let i = w.clone(); raw::from_padded_bits(&i.table.columns(), &i.stream, i.length, &mut w.position, i.node, &mut w.out) }, good: |w| w.node = PAIR, ..READER },
-        Call { name: "to_compact_bits", run: on!(w, |t, i, o| raw::to_compact_bits(t, &a(i), &mut o.value, &mut o.out)), good: |w| w.a.2 = PAIR, names: Names::Nothing, records: 1, ..MAKER },
-        Call { name: "to_padded_bits", run: on!(w, |t, i, o| raw::to_padded_bits(t, &a(i), &mut o.value, &mut o.out)), good: |w| w.a.2 = PAIR, names: Names::Nothing, records: 1, ..MAKER },
-        Call { name: "prune", run: on!(w, |t, i, o| raw::prune(t, &a(i), i.node, &mut o.value, &mut o.out)), good: |w| { w.a.2 = PAIR; w.node = PAIR }, records: 1, ..MAKER },
+        Call {
+            name: "compare",
+            run: on!(w, |t, i, o| raw::compare(t, &a(i), &b(i), &mut o.value)),
+            records: 2,
+            ..VIEW
+        },
+        Call {
+            name: "compact_len",
+            run: on!(w, |t, i, o| raw::compact_len(t, &a(i), &mut o.value)),
+            good: |w| w.a.2 = PAIR,
+            ..VIEW
+        },
+        Call {
+            name: "padded_len",
+            run: on!(w, |t, i, o| raw::padded_len(t, &a(i), &mut o.value)),
+            good: |w| w.a.2 = PAIR,
+            ..VIEW
+        },
+        Call {
+            name: "unit",
+            run: on!(w, |t, i, o| raw::unit(t, i.node, &mut o.value, &mut o.out)),
+            out: Some(0),
+            ..MAKER
+        },
+        Call {
+            name: "left",
+            run: on!(w, |t, i, o| raw::left(t, &a(i), i.node, &mut o.value, &mut o.out)),
+            good: |w| w.node = SUM,
+            records: 1,
+            ..MAKER
+        },
+        Call {
+            name: "right",
+            run: on!(w, |t, i, o| raw::right(t, &a(i), i.node, &mut o.value, &mut o.out)),
+            good: |w| {
+                w.node = SUM;
+                w.a.2 = BIT + 1
+            },
+            records: 1,
+            ..MAKER
+        },
+        Call {
+            name: "product",
+            run: on!(w, |t, i, o| raw::product(t, &a(i), &b(i), i.node, &mut o.value, &mut o.out)),
+            good: |w| {
+                w.node = PAIR;
+                w.a.2 = SUM
+            },
+            records: 2,
+            ..MAKER
+        },
+        Call {
+            name: "none",
+            run: on!(w, |t, i, o| raw::none(t, i.node, &mut o.value, &mut o.out)),
+            good: |w| w.node = BUFFER,
+            out: Some(2),
+            ..MAKER
+        },
+        Call {
+            name: "some",
+            run: on!(w, |t, i, o| raw::some(t, &a(i), i.node, &mut o.value, &mut o.out)),
+            good: |w| {
+                w.node = BUFFER;
+                w.a.2 = BYTE
+            },
+            records: 1,
+            out: Some(2),
+            ..MAKER
+        },
+        Call {
+            name: "zero",
+            run: on!(w, |t, i, o| raw::zero(t, i.node, &mut o.value, &mut o.out)),
+            good: |w| w.node = PAIR,
+            ..MAKER
+        },
+        Call {
+            name: "u1",
+            run: on!(w, |t, i, o| raw::u1(t, i.n, i.node, &mut o.value, &mut o.out)),
+            good: |w| w.node = BIT,
+            ..MAKER
+        },
+        Call {
+            name: "u2",
+            run: on!(w, |t, i, o| raw::u2(t, i.n, i.node, &mut o.value, &mut o.out)),
+            good: |w| w.node = BIT + 1,
+            ..MAKER
+        },
+        Call {
+            name: "u4",
+            run: on!(w, |t, i, o| raw::u4(t, i.n, i.node, &mut o.value, &mut o.out)),
+            good: |w| w.node = BIT + 2,
+            ..MAKER
+        },
+        Call {
+            name: "u8",
+            run: on!(w, |t, i, o| raw::u8(t, &i.data, i.node, &mut o.value, &mut o.out)),
+            good: |w| word(1, w),
+            out: Some(1),
+            ..MAKER
+        },
+        Call {
+            name: "u16",
+            run: on!(w, |t, i, o| raw::u16(t, &i.data, i.node, &mut o.value, &mut o.out)),
+            good: |w| word(2, w),
+            out: Some(2),
+            ..MAKER
+        },
+        Call {
+            name: "u32",
+            run: on!(w, |t, i, o| raw::u32(t, &i.data, i.node, &mut o.value, &mut o.out)),
+            good: |w| word(4, w),
+            out: Some(4),
+            ..MAKER
+        },
+        Call {
+            name: "u64",
+            run: on!(w, |t, i, o| raw::u64(t, &i.data, i.node, &mut o.value, &mut o.out)),
+            good: |w| word(8, w),
+            out: Some(8),
+            ..MAKER
+        },
+        Call {
+            name: "u128",
+            run: on!(w, |t, i, o| raw::u128(t, &i.data, i.node, &mut o.value, &mut o.out)),
+            good: |w| word(16, w),
+            out: Some(16),
+            ..MAKER
+        },
+        Call {
+            name: "u256",
+            run: on!(w, |t, i, o| raw::u256(t, &i.data, i.node, &mut o.value, &mut o.out)),
+            good: |w| word(32, w),
+            out: Some(32),
+            ..MAKER
+        },
+        Call {
+            name: "u512",
+            run: on!(w, |t, i, o| raw::u512(t, &i.data, i.node, &mut o.value, &mut o.out)),
+            good: |w| word(64, w),
+            out: Some(64),
+            ..MAKER
+        },
+        Call {
+            name: "from_byte_array",
+            run: on!(w, |t, i, o| raw::from_byte_array(t, &i.data, i.node, &mut o.value, &mut o.out)),
+            good: |w| word(16, w),
+            out: Some(16),
+            ..MAKER
+        },
+        Call {
+            name: "word_product",
+            run: on!(w, |t, i, o| raw::word_product(t, &a(i), &b(i), i.node, &mut o.value, &mut o.out)),
+            good: |w| w.node = BIT + 1,
+            records: 2,
+            ..MAKER
+        },
+        Call {
+            name: "word_from_bits",
+            run: |w| {
+                let i = w.clone();
+                raw::word_from_bits(&i.table.columns(), &i.stream, i.length, &mut w.position, i.n, i.node, &mut w.out)
+            },
+            good: |w| {
+                w.n = 3;
+                w.node = BYTE
+            },
+            ..READER
+        },
+        Call {
+            name: "buffer8_two_n_plus_one",
+            run: on!(w, |t, i, o| raw::buffer8_two_n_plus_one(t, i.n, &i.data, i.node, &mut o.value, &mut o.out)),
+            good: |w| {
+                w.node = BUFFER;
+                w.data = vec![0xA5]
+            },
+            out: Some(2),
+            ..MAKER
+        },
+        Call {
+            name: "ctx8",
+            run: on!(w, |t, i, o| raw::ctx8(t, &i.data, i.n, &i.buffer, i.node, &mut o.value, &mut o.out)),
+            good: |w| {
+                w.node = STATE;
+                w.data = vec![7; 32];
+                w.buffer = vec![9; 63]
+            },
+            out: Some(104),
+            ..MAKER
+        },
+        Call {
+            name: "from_compact_bits",
+            run: |w| {
+                let i = w.clone();
+                raw::from_compact_bits(&i.table.columns(), &i.stream, i.length, &mut w.position, i.node, &mut w.out)
+            },
+            good: |w| w.node = PAIR,
+            ..READER
+        },
+        Call {
+            name: "from_padded_bits",
+            run: |w| {
+                let i = w.clone();
+                raw::from_padded_bits(&i.table.columns(), &i.stream, i.length, &mut w.position, i.node, &mut w.out)
+            },
+            good: |w| w.node = PAIR,
+            ..READER
+        },
+        Call {
+            name: "to_compact_bits",
+            run: on!(w, |t, i, o| raw::to_compact_bits(t, &a(i), &mut o.value, &mut o.out)),
+            good: |w| w.a.2 = PAIR,
+            names: Names::Nothing,
+            records: 1,
+            ..MAKER
+        },
+        Call {
+            name: "to_padded_bits",
+            run: on!(w, |t, i, o| raw::to_padded_bits(t, &a(i), &mut o.value, &mut o.out)),
+            good: |w| w.a.2 = PAIR,
+            names: Names::Nothing,
+            records: 1,
+            ..MAKER
+        },
+        Call {
+            name: "prune",
+            run: on!(w, |t, i, o| raw::prune(t, &a(i), i.node, &mut o.value, &mut o.out)),
+            good: |w| {
+                w.a.2 = PAIR;
+                w.node = PAIR
+            },
+            records: 1,
+            ..MAKER
+        },
     ]
 }
 

@@ -29,13 +29,13 @@ pub fn sweep(run: &mut Run, size: &Size) {
             run.check(&Request { node: *random.pick(&nodes), ..q });
             run.check(&Request { node: wide, ..q });
             run.check(&Request { n: 13 + random.below(3), ..q });
-            run.check(&Request { n: random.next() | 1 << 60, ..q });
+            run.check(&Request { n: random.draw() | 1 << 60, ..q });
         }
     }
     for length in (0..=70).chain([1000, 5000]) {
         for _ in 0..size.pick(2, 40) {
             let (midstate, buffer) = (random.bytes(32), random.bytes(length));
-            let n = *random.clone().pick(&[0, 1, 63, 64, 1 << 32, u64::MAX, random.next()]);
+            let n = *random.clone().pick(&[0, 1, 63, 64, 1 << 32, u64::MAX, random.draw()]);
             let q = Request {
                 data: &midstate,
                 n,

@@ -24,7 +24,8 @@ pub fn sweep(run: &mut Run, size: &Size) {
                 let bytes = placed(&mut random, pattern, width, offset, 1);
                 let a = Record { bytes: &bytes, offset, node: node.into() };
                 let room = if random.one_in(8) { random.below(3) as usize } else { 3 };
-                let q = Request { a, node: target.into(), out: &out[..room], ..Request::new(Call::Prune, table.lend()) };
+                let q =
+                    Request { a, node: target.into(), out: &out[..room], ..Request::new(Call::Prune, table.lend()) };
                 run.check(&q);
             }
         }

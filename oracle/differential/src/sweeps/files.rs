@@ -70,7 +70,7 @@ fn cut_and_changed(run: &mut Run, random: &mut Random, file: &[u8], columns: &Ow
         for _ in 0..1 + random.below(2) {
             let at = random.below(changed.len() as u64) as usize;
             match random.below(4) {
-                0 => changed[at] = random.next() as u8,
+                0 => changed[at] = random.draw() as u8,
                 1 => changed[at] ^= 0x80,
                 2 => changed.insert(at, *random.pick(&[0, 1, 2, 0x80, 0xFF])),
                 _ if changed.len() > 1 => {

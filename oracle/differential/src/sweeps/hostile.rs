@@ -7,8 +7,28 @@ use oracle::supply::{trees_up_to, Random, TableMaker};
 
 /// Numbers at which sums and products of 64 bits go wrong, and small ones.
 const NUMBERS: [u64; 22] = [
-    0, 1, 2, 3, 7, 8, 9, 31, 32, 63, 64, 1023, 1024, 1025, 524_288, 524_289,
-    1 << 32, 1 << 61, (1 << 61) - 1, 1 << 63, u64::MAX - 7, u64::MAX,
+    0,
+    1,
+    2,
+    3,
+    7,
+    8,
+    9,
+    31,
+    32,
+    63,
+    64,
+    1023,
+    1024,
+    1025,
+    524_288,
+    524_289,
+    1 << 32,
+    1 << 61,
+    (1 << 61) - 1,
+    1 << 63,
+    u64::MAX - 7,
+    u64::MAX,
 ];
 
 pub fn sweep(run: &mut Run, size: &Size) {
@@ -16,7 +36,7 @@ pub fn sweep(run: &mut Run, size: &Size) {
     let tables = tables(&mut random);
     let garbage = random.bytes(70_000);
     let out = before(70_000);
-    for _ in 0..size.pick(150_000, 3_000_000) {
+    for _ in 0..size.pick(80_000, 3_000_000) {
         let call = *random.pick(Call::ALL);
         // One time in five the table with types past all limits.
         let kept = if random.one_in(5) { tables.last().expect("some") } else { random.pick(&tables) };
@@ -62,12 +82,17 @@ fn tables(random: &mut Random) -> Vec<OwnedColumns> {
 
 /// A request that mostly passes the ladder.
 fn sound<'a>(
-    random: &mut Random, call: Call, table: &'a OwnedColumns, garbage: &'a [u8], out: &'a [u8],
+    random: &mut Random,
+    call: Call,
+    table: &'a OwnedColumns,
+    garbage: &'a [u8],
+    out: &'a [u8],
 ) -> Request<'a> {
     let record = |random: &mut Random| {
         let node = random.below(table.count);
         let offset = random.below(64);
-        let length = (offset + table.widths[node as usize].min(524_288)).div_ceil(8) as usize + random.below(2) as usize;
+        let length =
+            (offset + table.widths[node as usize].min(524_288)).div_ceil(8) as usize + random.below(2) as usize;
         let from = random.below((garbage.len() - length + 1) as u64) as usize;
         Record { bytes: &garbage[from..from + length], offset, node }
     };
@@ -79,14 +104,19 @@ fn sound<'a>(
     };
     let data_length = *random.pick(&[0, 1, 2, 4, 8, 16, 32, 64, 3, 7, 63]);
     let length = random.below(200);
-    let values_length = if call.values_are_a_slice() { call.value_count() + random.below(2) as usize } else { call.value_count() };
-    let room = if random.one_in(3) { random.below(12) as usize } else { table.widths[node as usize].min(540_000).div_ceil(8) as usize };
+    let values_length =
+        if call.values_are_a_slice() { call.value_count() + random.below(2) as usize } else { call.value_count() };
+    let room = if random.one_in(3) {
+        random.below(12) as usize
+    } else {
+        table.widths[node as usize].min(540_000).div_ceil(8) as usize
+    };
     Request {
         a,
         b,
         node,
         other: random.below(table.count),
-        n: if call == Call::Ctx8 { random.next() } else { random.below(6) },
+        n: if call == Call::Ctx8 { random.draw() } else { random.below(6) },
         data: &garbage[..data_length],
         buffer: &garbage[100..100 + random.below(64) as usize],
         stream: Stream { bytes: &garbage[200..225], length, position: random.below(length + 1) },
@@ -162,13 +192,13 @@ fn shorten(random: &mut Random, table: &mut OwnedColumns) {
 
 /// Entries past the count, which no call may look at.
 fn lengthen(random: &mut Random, table: &mut OwnedColumns) {
-    table.kinds.push(random.next() as u8);
-    table.lefts.push(random.next() as u16);
-    table.rights.push(random.next() as u16);
-    table.widths.push(random.next());
-    table.sizes.push(random.next());
-    table.padded.push(random.next() as u8);
-    table.classes.push(random.next() as u16);
+    table.kinds.push(random.draw() as u8);
+    table.lefts.push(random.draw() as u16);
+    table.rights.push(random.draw() as u16);
+    table.widths.push(random.draw());
+    table.sizes.push(random.draw());
+    table.padded.push(random.draw() as u8);
+    table.classes.push(random.draw() as u16);
 }
 
 fn spoil_entry(random: &mut Random, table: &mut OwnedColumns) {
@@ -177,7 +207,8 @@ fn spoil_entry(random: &mut Random, table: &mut OwnedColumns) {
         return;
     }
     let node = random.below(shortest as u64) as usize;
-    let number = *random.pick(&[0, 1, 2, node as u16, node.saturating_sub(1) as u16, node as u16 + 1, 255, 1024, 65_535]);
+    let number =
+        *random.pick(&[0, 1, 2, node as u16, node.saturating_sub(1) as u16, node as u16 + 1, 255, 1024, 65_535]);
     match random.below(3) {
         0 => table.kinds[node] = number as u8,
         1 => table.lefts[node] = number,

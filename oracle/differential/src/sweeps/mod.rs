@@ -50,7 +50,11 @@ pub struct Sweep {
 pub const ALL: &[Sweep] = &[
     Sweep { name: "files", what: "hostile and sound table files, columns in memory", run: files::sweep },
     Sweep { name: "types", what: "questions about all small types, random and stopped ones", run: types::sweep },
-    Sweep { name: "records", what: "views, lengths and writers: all small records, all alignments", run: records::sweep },
+    Sweep {
+        name: "records",
+        what: "views, lengths and writers: all small records, all alignments",
+        run: records::sweep,
+    },
     Sweep { name: "pairs", what: "equality and order: all pairs of small records, with neighbours", run: pairs::sweep },
     Sweep { name: "streams", what: "readers: all small types, all short streams", run: streams::sweep },
     Sweep { name: "constructors", what: "constructors of all small types", run: constructors::sweep },

@@ -25,11 +25,11 @@ pub fn sweep(run: &mut Run, size: &Size) {
     }
     for _ in 0..size.pick(5_000, 100_000) {
         let mut maker = TableMaker::new();
-        let nodes = [maker.add_shared(&random.pick(&trees[..]).clone()), maker.add_spread(&random.pick(&trees[..]).clone())];
+        let nodes =
+            [maker.add_shared(&random.pick(&trees[..]).clone()), maker.add_spread(&random.pick(&trees[..]).clone())];
         let table = maker.finish();
-        let side = |random: &mut Random, node: u16| {
-            (u64::from(node), random.below(1 << table.widths[usize::from(node)]))
-        };
+        let side =
+            |random: &mut Random, node: u16| (u64::from(node), random.below(1 << table.widths[usize::from(node)]));
         let (a, b) = (side(&mut random, nodes[0]), side(&mut random, nodes[1]));
         compare(run, &mut random, &table, a, b);
     }

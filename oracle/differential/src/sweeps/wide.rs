@@ -35,7 +35,11 @@ fn one_table(run: &mut Run, random: &mut Random, most: u64, picks: usize) {
     }
     let table = maker.finish();
     for _ in 0..picks {
-        let node = if random.one_in(2) { random.below(grown as u64) } else { grown as u64 - 1 - random.below(grown.min(12) as u64) };
+        let node = if random.one_in(2) {
+            random.below(grown as u64)
+        } else {
+            grown as u64 - 1 - random.below(grown.min(12) as u64)
+        };
         every_call(run, random, &table, node, &targets);
     }
     for node in targets.keys() {
@@ -192,7 +196,7 @@ fn sparse(random: &mut Random, count: usize) -> Vec<u8> {
             bytes.push(match kind {
                 0 => 0,
                 1 => 0xFF,
-                _ => random.next() as u8,
+                _ => random.draw() as u8,
             });
         }
     }

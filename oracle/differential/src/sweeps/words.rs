@@ -74,7 +74,8 @@ fn arrays(run: &mut Run, random: &mut Random, table: &OwnedColumns, nodes: &[u64
         if length.is_power_of_two() && length <= 65_536 {
             let node = nodes[3 + length.ilog2() as usize];
             for room in [0, length - 1, length, length + 1] {
-                let q = Request { data: &data, node, out: &out[..room], ..Request::new(Call::FromByteArray, table.lend()) };
+                let q =
+                    Request { data: &data, node, out: &out[..room], ..Request::new(Call::FromByteArray, table.lend()) };
                 run.check(&q);
             }
         }
@@ -126,11 +127,20 @@ fn readers(run: &mut Run, random: &mut Random, table: &OwnedColumns, nodes: &[u6
             for length in [position + width, position + width - 1, position + width + 1, position] {
                 let stream = Stream { bytes: &bytes, length, position };
                 let room = bytes_for(width.min(524_288));
-                for out in [&out[..room], &out[..room - 1], &out[..room + 2]] {
-                    let q = Request { stream, n, node: nodes[n as usize], out, ..Request::new(Call::WordFromBits, table.lend()) };
+                let outs = [&out[..room], &out[..room - 1], &out[..room + 2]];
+                // Of the widest words the quick form tries one output.
+                let tried = if size.quick && n > 15 { 1 } else { 3 };
+                for out in &outs[..tried] {
+                    let q = Request {
+                        stream,
+                        n,
+                        node: nodes[n as usize],
+                        out,
+                        ..Request::new(Call::WordFromBits, table.lend())
+                    };
                     run.check(&q);
                     run.check(&Request { n: n + 1, ..q });
-                    run.check(&Request { n: random.next(), ..q });
+                    run.check(&Request { n: random.draw(), ..q });
                     run.check(&Request { n: 32 + random.below(3), node: *random.pick(others), ..q });
                     run.check(&Request { n: n % 4, node: *random.pick(others), ..q });
                 }

@@ -1,0 +1,187 @@
+-- Edges that the marked samples do not reach, computed by the definitions: each would show a wrong reading of document 01.
+-- Assumes nothing.
+use mathlib.Core.Path.{_≡_, refl}
+use mathlib.Core.List.{List, [], _∷_, map}
+use Prim.Native.Nat.{_^_, _-_, Ordering·lt, Ordering·eq, Ordering·gt}
+use lib.ListN.{length, drop, replicate}
+use Rattle.meaning.specs.Choice.{least, from}
+use Rattle.meaning.specs.Types.{top, stop, same, bits, width, size, padded}
+use Rattle.meaning.specs.Tables.{table, columns, facts, tyTo, tyAt, classOf, firstBad, firstBadEntry, entryRight, factsRight}
+use Rattle.meaning.specs.Files.{tableIn, groups, entryFrom, entriesFrom}
+use Rattle.meaning.specs.Bits.{odd, toBits, bitsOf, value, packTo, pack, written}
+use Rattle.meaning.specs.Records.{compact, sameBits, orderBits}
+use Rattle.meaning.specs.Codecs.{decodeCompact, decodePadded}
+use Rattle.meaning.specs.Words.{word, wordWidths, isWord, asWord, exponent, buffer, bufferBits, ctx8, ctx8Bits}
+use Rattle.meaning.specs.Cuts.{cut}
+use Rattle.meaning.specs.Ladder.{refused, accepted, ladder, record-of, stream-of, recordBits, restOf}
+use Rattle.meaning.specs.TypeCalls.{checkTable, fillFacts, readTable, asWordCall, wordWidth, bufferWidth}
+use Rattle.meaning.specs.RecordCalls.{asLeft, asRight, compareCall, paddedLen, unitCall, leftOut, noneCall, someOut, productCall, productOut}
+use Rattle.meaning.specs.CodecCalls.{fromCompactCall, fromPaddedCall, fromPaddedOut, toPaddedOut}
+use Rattle.meaning.specs.WordCalls.{numberCall, numberOut, bytesCall, bytesOut, arrayCall, joinCall, joinOut, wordReadCall, bufferCall, bufferOut, ctx8Call}
+use Rattle.meaning.specs.CutCalls.{pruneCall, pruneOut}
+use Rattle.meaning.proofs.Sampling.{tableS, tableB, Said, done, node-facts, flag, count, number, order, place, places, out, Sample, sample, defined, paper, spare, one}
+
+-- Faults of a file, each with its place; a sound file with no room answers 9.
+pub fileEdges : List Sample
+fileEdges =
+    sample (count (readTable ([]) (columns [] [] []) (facts [] [] [] []))) (count (refused 1 0))
+    ∷ sample (count (readTable (0x80 ∷ []) (columns [] [] []) (facts [] [] [] []))) (count (refused 1 0))
+    ∷ sample (count (readTable (0x80 ∷ 0x00 ∷ []) (columns [] [] []) (facts [] [] [] []))) (count (refused 1 0))
+    ∷ sample (count (readTable (0x81 ∷ 0x00 ∷ []) (columns [] [] []) (facts [] [] [] []))) (count (refused 1 0))
+    ∷ sample (count (readTable (0x81 ∷ 0x80 ∷ 0x01 ∷ []) (columns [] [] []) (facts [] [] [] []))) (count (refused 1 0))
+    ∷ sample (count (readTable (0x00 ∷ []) (columns [] [] []) (facts [] [] [] []))) (count (refused 1 0))
+    ∷ sample (count (readTable (0x80 ∷ 0x08 ∷ []) (columns [] [] []) (facts [] [] [] []))) (count (refused 1 2))
+    ∷ sample (count (readTable (0x81 ∷ 0x08 ∷ []) (columns [] [] []) (facts [] [] [] []))) (count (refused 1 0))
+    ∷ sample (count (readTable (0x01 ∷ []) (columns [] [] []) (facts [] [] [] []))) (count (refused 1 1))
+    ∷ sample (count (readTable (0x01 ∷ 0x00 ∷ 0x00 ∷ []) (columns [] [] []) (facts [] [] [] []))) (count (refused 1 2))
+    ∷ sample (count (readTable (0x01 ∷ 0x03 ∷ []) (columns [] [] []) (facts [] [] [] []))) (count (refused 1 1))
+    ∷ sample (count (readTable (0x01 ∷ 0x01 ∷ []) (columns [] [] []) (facts [] [] [] []))) (count (refused 1 2))
+    ∷ sample (count (readTable (0x01 ∷ 0x01 ∷ 0x00 ∷ []) (columns [] [] []) (facts [] [] [] []))) (count (refused 1 2))
+    ∷ sample (count (readTable (0x02 ∷ 0x00 ∷ 0x01 ∷ 0x00 ∷ []) (columns [] [] []) (facts [] [] [] []))) (count (refused 1 4))
+    ∷ sample (count (readTable (0x02 ∷ 0x00 ∷ 0x01 ∷ 0x00 ∷ 0x80 ∷ []) (columns [] [] []) (facts [] [] [] []))) (count (refused 1 4))
+    ∷ sample (count (readTable (0x02 ∷ 0x00 ∷ 0x01 ∷ 0x00 ∷ 0x01 ∷ []) (columns [] [] []) (facts [] [] [] []))) (count (refused 1 4))
+    ∷ sample (count (readTable (0x02 ∷ 0x00 ∷ 0x01 ∷ 0x00 ∷ 0x00 ∷ 0xFF ∷ 0xFF ∷ []) (columns [] [] []) (facts [] [] [] []))) (count (refused 1 5))
+    ∷ sample (count (readTable (0x01 ∷ 0x80 ∷ 0x00 ∷ []) (columns [] [] []) (facts [] [] [] []))) (count (refused 1 1))
+    ∷ sample (count (readTable (0x01 ∷ 0xFF ∷ 0x7F ∷ []) (columns [] [] []) (facts [] [] [] []))) (count (refused 1 1))
+    ∷ sample (count (readTable (0x02 ∷ 0x00 ∷ 0x02 ∷ 0x80 ∷ 0x80 ∷ []) (columns [] [] []) (facts [] [] [] []))) (count (refused 1 3))
+    ∷ sample (count (readTable (0x01 ∷ 0x00 ∷ []) (columns [] [] []) (facts [] [] [] []))) (count (refused 9 0))
+    ∷ []
+
+pub fileEdges-hold : map defined fileEdges ≡ map paper fileEdges
+unfolding fileEdges defined paper tableS tableB spare least from same bits width size padded tyTo tyAt classOf firstBad firstBadEntry entryRight factsRight tableIn groups entryFrom entriesFrom odd toBits bitsOf value packTo pack written compact sameBits orderBits decodeCompact decodePadded word wordWidths isWord asWord exponent buffer bufferBits ctx8 ctx8Bits cut ladder recordBits restOf
+fileEdges-hold = refl
+
+-- Counts, columns, entries and facts that are wrong, each with its place.
+pub tableEdges : List Sample
+tableEdges =
+    sample (done (checkTable (table (0 ∷ 1 ∷ []) (0 ∷ 0 ∷ []) (0 ∷ 0 ∷ []) (0 ∷ 1 ∷ []) (1 ∷ 3 ∷ []) (0 ∷ 0 ∷ []) (0 ∷ 1 ∷ []) 2))) (done (accepted tt))
+    ∷ sample (done (checkTable (table (0 ∷ 1 ∷ []) (0 ∷ 0 ∷ []) (0 ∷ 0 ∷ []) (0 ∷ 1 ∷ []) (1 ∷ 3 ∷ []) (0 ∷ 0 ∷ []) (0 ∷ 1 ∷ []) 1))) (done (accepted tt))
+    ∷ sample (done (checkTable (table (0 ∷ 1 ∷ []) (0 ∷ 0 ∷ []) (0 ∷ 0 ∷ []) (0 ∷ 1 ∷ []) (1 ∷ 3 ∷ []) (0 ∷ 0 ∷ []) (0 ∷ 1 ∷ []) 0))) (done (refused 1 0))
+    ∷ sample (done (checkTable (table (0 ∷ 1 ∷ []) (0 ∷ 0 ∷ []) (0 ∷ 0 ∷ []) (0 ∷ 1 ∷ []) (1 ∷ 3 ∷ []) (0 ∷ 0 ∷ []) (0 ∷ 1 ∷ []) 3))) (done (refused 1 0))
+    ∷ sample (done (checkTable (table (0 ∷ 1 ∷ []) (0 ∷ 0 ∷ []) (0 ∷ 0 ∷ []) (0 ∷ 1 ∷ []) (1 ∷ 3 ∷ []) (0 ∷ 0 ∷ []) (0 ∷ 1 ∷ []) (2 ^ 64 - 1)))) (done (refused 1 0))
+    ∷ sample (done (checkTable (table (0 ∷ 3 ∷ []) (0 ∷ 0 ∷ []) (0 ∷ 0 ∷ []) (0 ∷ 1 ∷ []) (1 ∷ 3 ∷ []) (0 ∷ 0 ∷ []) (0 ∷ 1 ∷ []) 2))) (done (refused 1 1))
+    ∷ sample (done (checkTable (table (0 ∷ 1 ∷ []) (1 ∷ 0 ∷ []) (0 ∷ 0 ∷ []) (0 ∷ 1 ∷ []) (1 ∷ 3 ∷ []) (0 ∷ 0 ∷ []) (0 ∷ 1 ∷ []) 2))) (done (refused 1 0))
+    ∷ sample (done (checkTable (table (0 ∷ 1 ∷ []) (0 ∷ 0 ∷ []) (1 ∷ 0 ∷ []) (0 ∷ 1 ∷ []) (1 ∷ 3 ∷ []) (0 ∷ 0 ∷ []) (0 ∷ 1 ∷ []) 2))) (done (refused 1 0))
+    ∷ sample (done (checkTable (table (0 ∷ 1 ∷ []) (0 ∷ 0 ∷ []) (0 ∷ 1 ∷ []) (0 ∷ 1 ∷ []) (1 ∷ 3 ∷ []) (0 ∷ 0 ∷ []) (0 ∷ 1 ∷ []) 2))) (done (refused 1 1))
+    ∷ sample (done (checkTable (table (0 ∷ 1 ∷ []) (0 ∷ 0 ∷ []) (0 ∷ 0 ∷ []) (0 ∷ 1 ∷ []) (1 ∷ 3 ∷ []) (0 ∷ 2 ∷ []) (0 ∷ 1 ∷ []) 2))) (done (refused 1 1))
+    ∷ sample (done (checkTable (table (0 ∷ 1 ∷ []) (0 ∷ 0 ∷ []) (0 ∷ 0 ∷ []) (0 ∷ 1 ∷ []) (1 ∷ 3 ∷ []) (0 ∷ 0 ∷ []) (0 ∷ 0 ∷ []) 2))) (done (refused 1 1))
+    ∷ sample (done (checkTable (table (0 ∷ 1 ∷ []) (0 ∷ 0 ∷ []) (0 ∷ 0 ∷ []) (0 ∷ []) (1 ∷ 3 ∷ []) (0 ∷ 0 ∷ []) (0 ∷ 1 ∷ []) 2))) (done (refused 1 0))
+    ∷ sample (done (checkTable (table (0 ∷ 1 ∷ []) (0 ∷ 0 ∷ []) (0 ∷ 0 ∷ []) (0 ∷ 1 ∷ []) (1 ∷ 3 ∷ []) (0 ∷ 0 ∷ []) (0 ∷ 1 ∷ 9 ∷ []) 2))) (done (accepted tt))
+    ∷ sample (done (checkTable (table (0 ∷ 1 ∷ []) (0 ∷ 0 ∷ []) (0 ∷ 0 ∷ []) (0 ∷ 1 ∷ []) (2 ∷ 9 ∷ []) (0 ∷ 0 ∷ []) (0 ∷ 1 ∷ []) 2))) (done (refused 1 0))
+    ∷ sample (done (checkTable (table (0 ∷ 1 ∷ []) (0 ∷ 0 ∷ []) (0 ∷ 0 ∷ []) (0 ∷ 1 ∷ []) (1 ∷ 9 ∷ []) (0 ∷ 0 ∷ []) (0 ∷ 1 ∷ []) 2))) (done (refused 1 1))
+    ∷ sample (done (checkTable (table (0 ∷ 1 ∷ []) (0 ∷ 0 ∷ []) (0 ∷ 0 ∷ []) (0 ∷ 2 ∷ []) (1 ∷ 3 ∷ []) (0 ∷ 0 ∷ []) (0 ∷ 1 ∷ []) 2))) (done (refused 1 1))
+    ∷ sample (done (fillFacts (columns (0 ∷ []) (0 ∷ []) (0 ∷ [])) 1 (facts [] [] [] []))) (done (refused 9 0))
+    ∷ sample (done (fillFacts (columns (0 ∷ []) (5 ∷ []) (0 ∷ [])) 1 (facts [] [] [] []))) (done (refused 1 0))
+    ∷ []
+
+pub tableEdges-hold : map defined tableEdges ≡ map paper tableEdges
+unfolding tableEdges defined paper tableS tableB spare least from same bits width size padded tyTo tyAt classOf firstBad firstBadEntry entryRight factsRight tableIn groups entryFrom entriesFrom odd toBits bitsOf value packTo pack written compact sameBits orderBits decodeCompact decodePadded word wordWidths isWord asWord exponent buffer bufferBits ctx8 ctx8Bits cut ladder recordBits restOf
+tableEdges-hold = refl
+
+-- Bounds, views, order, constructors, both codecs and cuts at their edges.
+pub recordEdges : List Sample
+recordEdges =
+    sample (count (paddedLen tableS (record-of [] 0 0))) (count (accepted 0))
+    ∷ sample (count (paddedLen tableS (record-of [] 1 0))) (count (refused 5 0))
+    ∷ sample (count (paddedLen tableS (record-of [] (2 ^ 64 - 1) 2))) (count (refused 5 0))
+    ∷ sample (count (paddedLen tableS (record-of (0 ∷ []) 8 2))) (count (accepted 0))
+    ∷ sample (count (paddedLen tableS (record-of (0 ∷ []) 8 1))) (count (refused 5 0))
+    ∷ sample (count (paddedLen tableS (record-of [] 99 10))) (count (refused 2 0))
+    ∷ sample (order (compareCall tableS (one 0x60 4) (one 0x40 4))) (order (accepted Ordering·eq))
+    ∷ sample (order (compareCall tableS (one 0x80 4) (one 0x40 4))) (order (accepted Ordering·gt))
+    ∷ sample (order (compareCall tableS (one 0x80 6) (one 0x80 1))) (order (accepted Ordering·eq))
+    ∷ sample (order (compareCall tableS (one 0x80 3) (one 0x00 8))) (order (accepted Ordering·lt))
+    ∷ sample (place (asRight tableS (one 0x60 5))) (place (refused 7 0))
+    ∷ sample (place (asRight tableS (one 0xC0 3))) (place (accepted (record { offset = 1; node = 1 })))
+    ∷ sample (place (asLeft tableS (one 0x60 4))) (place (refused 7 0))
+    ∷ sample (out (leftOut tableS (record-of (0x20 ∷ []) 2 1) 5 (0xFF ∷ 0xEE ∷ []))) (out (0x20 ∷ 0xEE ∷ []))
+    ∷ sample (count (noneCall tableS 3 [])) (count (refused 9 0))
+    ∷ sample (count (noneCall tableS 8 [])) (count (refused 7 0))
+    ∷ sample (out (someOut tableS (one 0x80 6) 3 spare)) (out (0xC0 ∷ 0xFF ∷ []))
+    ∷ sample (count (unitCall tableS 0 [])) (count (accepted 0))
+    ∷ sample (count (unitCall tableS 2 [])) (count (refused 7 0))
+    ∷ sample (out (productOut tableS (one 0x20 5) (one 0x80 1) 7 spare)) (out (0x30 ∷ 0xFF ∷ []))
+    ∷ sample (count (productCall tableS (one 0x80 1) (one 0x20 5) 7 spare)) (count (refused 7 0))
+    ∷ sample (count (fromCompactCall tableS (stream-of [] 1 0) 0 [])) (count (refused 5 0))
+    ∷ sample (count (fromCompactCall tableS (stream-of (0x00 ∷ []) 4 5) 0 [])) (count (refused 5 0))
+    ∷ sample (count (fromCompactCall tableS (stream-of (0x00 ∷ []) 8 8) 0 [])) (count (accepted 8))
+    ∷ sample (count (fromPaddedCall tableS (stream-of (0x60 ∷ []) 3 0) 5 [])) (count (refused 9 0))
+    ∷ sample (count (fromPaddedCall tableS (stream-of (0x60 ∷ []) 2 0) 5 [])) (count (refused 8 0))
+    ∷ sample (count (fromPaddedCall tableS (stream-of (0x63 ∷ []) 8 5) 5 spare)) (count (accepted 8))
+    ∷ sample (out (fromPaddedOut tableS (stream-of (0x63 ∷ []) 8 5) 5 spare)) (out (0x60 ∷ 0xFF ∷ []))
+    ∷ sample (count (fromPaddedCall tableS (stream-of (0x60 ∷ []) 8 6) 5 [])) (count (refused 8 0))
+    ∷ sample (count (fromCompactCall tableS (stream-of (0x60 ∷ []) (2 ^ 64 - 1) 0) 5 [])) (count (refused 5 0))
+    ∷ sample (count (fromCompactCall tableS (stream-of (0x60 ∷ []) 8 (2 ^ 64 - 1)) 5 [])) (count (refused 5 0))
+    ∷ sample (out (toPaddedOut tableS (record-of (0x33 ∷ []) 1 5) spare)) (out (0x60 ∷ 0xFF ∷ []))
+    ∷ sample (count (pruneCall tableS (one 0x00 0) 2 spare)) (count (refused 7 0))
+    ∷ sample (count (pruneCall tableS (one 0x00 2) 0 [])) (count (accepted 0))
+    ∷ sample (out (pruneOut tableS (one 0xF0 7) 7 spare)) (out (0xF0 ∷ 0xFF ∷ []))
+    ∷ sample (count (pruneCall tableS (one 0x70 7) 10 spare)) (count (refused 2 0))
+    ∷ []
+
+pub recordEdges-hold : map defined recordEdges ≡ map paper recordEdges
+unfolding recordEdges defined paper tableS tableB spare least from same bits width size padded tyTo tyAt classOf firstBad firstBadEntry entryRight factsRight tableIn groups entryFrom entriesFrom odd toBits bitsOf value packTo pack written compact sameBits orderBits decodeCompact decodePadded word wordWidths isWord asWord exponent buffer bufferBits ctx8 ctx8Bits cut ladder recordBits restOf
+recordEdges-hold = refl
+
+-- Words, byte arrays, joins, buffers and the hash state at their edges.
+pub wordEdges : List Sample
+wordEdges =
+    sample (count (wordWidth 31)) (count (accepted (2 ^ 31)))
+    ∷ sample (count (wordWidth 32)) (count (refused 6 0))
+    ∷ sample (count (wordWidth (2 ^ 64 - 1))) (count (refused 6 0))
+    ∷ sample (count (bufferWidth 5)) (count (accepted 510))
+    ∷ sample (count (bufferWidth 12)) (count (accepted 65541))
+    ∷ sample (count (bufferWidth 13)) (count (refused 6 0))
+    ∷ sample (number (bits ctx8)) (number 830)
+    ∷ sample (number (exponent 0)) (number 29)
+    ∷ sample (number (exponent 1)) (number 0)
+    ∷ sample (number (exponent 3)) (number 29)
+    ∷ sample (number (exponent (2 ^ 28))) (number 28)
+    ∷ sample (number (exponent (2 ^ 29))) (number 29)
+    ∷ sample (count (asWordCall tableS 3)) (count (refused 7 0))
+    ∷ sample (count (asWordCall tableS 4)) (count (accepted 1))
+    ∷ sample (count (asWordCall tableS 6)) (count (accepted 0))
+    ∷ sample (count (asWordCall tableS 0)) (count (refused 7 0))
+    ∷ sample (count (asWordCall tableS 10)) (count (refused 2 0))
+    ∷ sample (count (numberCall tableS 0 2 1 [])) (count (refused 6 0))
+    ∷ sample (count (numberCall tableS 1 4 4 [])) (count (refused 6 0))
+    ∷ sample (count (numberCall tableS 1 4 99 [])) (count (refused 2 0))
+    ∷ sample (count (numberCall tableS 1 3 3 [])) (count (refused 7 0))
+    ∷ sample (count (numberCall tableS 1 3 4 [])) (count (refused 9 0))
+    ∷ sample (out (numberOut tableS 1 2 4 spare)) (out (0x80 ∷ 0xFF ∷ []))
+    ∷ sample (count (bytesCall tableB 3 [] 4 spare)) (count (refused 6 0))
+    ∷ sample (out (bytesOut tableB 4 (0x12 ∷ 0x34 ∷ []) 5 spare)) (out (0x12 ∷ 0x34 ∷ []))
+    ∷ sample (count (arrayCall tableB [] 4 [])) (count (refused 6 0))
+    ∷ sample (count (arrayCall tableB (1 ∷ 2 ∷ 3 ∷ []) 4 [])) (count (refused 6 0))
+    ∷ sample (count (arrayCall tableB (1 ∷ []) 3 [])) (count (refused 7 0))
+    ∷ sample (count (joinCall tableS (one 0x80 1) (one 0x80 6) 4 spare)) (count (accepted 2))
+    ∷ sample (out (joinOut tableS (one 0x80 1) (record-of (0x40 ∷ []) 1 6) 4 spare)) (out (0xC0 ∷ 0xFF ∷ []))
+    ∷ sample (count (joinCall tableS (one 0x80 3) (one 0x80 3) 4 spare)) (count (refused 7 0))
+    ∷ sample (out (joinOut tableB (one 0x12 4) (one 0x34 4) 5 spare)) (out (0x12 ∷ 0x34 ∷ []))
+    ∷ sample (count (wordReadCall tableS (stream-of (0x60 ∷ []) 8 0) 32 3 [])) (count (refused 6 0))
+    ∷ sample (count (wordReadCall tableS (stream-of (0x60 ∷ []) 8 0) 1 3 [])) (count (refused 7 0))
+    ∷ sample (count (wordReadCall tableS (stream-of (0x60 ∷ []) 8 7) 1 4 [])) (count (refused 8 0))
+    ∷ sample (count (wordReadCall tableS (stream-of (0x60 ∷ []) 8 6) 1 4 [])) (count (refused 9 0))
+    ∷ sample (count (wordReadCall tableS (stream-of (0x60 ∷ []) 8 6) 1 4 spare)) (count (accepted 8))
+    ∷ sample (count (wordReadCall tableS (stream-of (0x60 ∷ []) 9 6) 77 4 spare)) (count (refused 5 0))
+    ∷ sample (count (bufferCall tableB (2 ^ 64 - 1) (1 ∷ []) 4 [])) (count (refused 6 0))
+    ∷ sample (count (bufferCall tableB 0 (1 ∷ 2 ∷ []) 6 spare)) (count (refused 6 0))
+    ∷ sample (out (bufferOut tableB 1 (0xFF ∷ []) 8 (9 ∷ 9 ∷ 9 ∷ 9 ∷ []))) (out (0x00 ∷ 0x00 ∷ 0x7F ∷ 0xC0 ∷ []))
+    ∷ sample (out (pack (compact (buffer 1) (bufferBits 1 (0xFF ∷ []))))) (out (0x7F ∷ 0xC0 ∷ []))
+    ∷ sample (out (bufferOut tableB 1 (0x01 ∷ 0x02 ∷ 0x03 ∷ []) 8 (9 ∷ 9 ∷ 9 ∷ 9 ∷ []))) (out (0x80 ∷ 0x81 ∷ 0x40 ∷ 0xC0 ∷ []))
+    ∷ sample (count (ctx8Call tableB (record { midstate = replicate 32 255; counted = 1; buffered = replicate 63 7; used = 64 }) 8 [])) (count (refused 6 0))
+    ∷ sample (out (pack (drop 510 (ctx8Bits (record { midstate = 0xAB ∷ []; counted = 1; buffered = []; used = 0 })))))
+    (out (0 ∷ 0 ∷ 0 ∷ 0 ∷ 0 ∷ 0 ∷ 0 ∷ 1 ∷ 0xAB ∷ []))
+    ∷ sample (number top) (number 18446744073709551615)
+    ∷ sample (number (stop top 1)) (number top)
+    ∷ sample (number (length (ctx8Bits (record { midstate = replicate 32 255; counted = 1; buffered = replicate 63 7; used = 0 })))) (number 830)
+    ∷ []
+
+pub wordEdges-hold : map defined wordEdges ≡ map paper wordEdges
+unfolding wordEdges defined paper tableS tableB spare least from same bits width size padded tyTo tyAt classOf firstBad firstBadEntry entryRight factsRight tableIn groups entryFrom entriesFrom odd toBits bitsOf value packTo pack written compact sameBits orderBits decodeCompact decodePadded word wordWidths isWord asWord exponent buffer bufferBits ctx8 ctx8Bits cut ladder recordBits restOf
+wordEdges-hold = refl
+
+-- The fixed list is 2 to the n, for n from 0 to 31.
+pub widths-double : wordWidths ≡ map (λ n. 2 ^ n) (from 0 32)
+unfolding wordWidths from
+widths-double = refl
