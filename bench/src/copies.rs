@@ -1,8 +1,7 @@
 //! Copies of 60 KiB from every bit of a byte to every bit of a byte.
 //!
 //! Ours is `product` of a left side of 8 + d bits and a right side of 60 KiB that stands at bit s: the right side is
-//! copied to bit 8 + d. The crate's is `copy_bits` alone, from bit s to bit d of zeroed bytes; beside it, its own
-//! `Value::product`, which allocates.
+//! copied to bit 8 + d, and the table is checked first. The crate's is `copy_bits` alone, from bit s to bit d.
 
 use crate::copy_bits::copy_bits;
 use crate::measure::Effort;

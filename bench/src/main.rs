@@ -1,6 +1,6 @@
 //! Ours and the crate's text side by side on the same inputs: best of several, as ratios.
 //!
-//!     bench [--quick] [COPIES | CODECS | TABLES...]
+//!     bench [--quick] [copies | codecs | tables ...]
 //!
 //! A ratio above 1 says how many times as fast ours is. Every call of ours checks its whole table first; the crate
 //! has no such check, and its types carry an interned number where the published crate computes a SHA-256 each time

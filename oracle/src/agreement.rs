@@ -6,7 +6,7 @@ use crate::library::{Answer, Call, Request};
 use crate::published::{Published, Said};
 use std::cmp::Ordering;
 
-/// The differences between rules and text that a comparison may meet, as DIFFERENCES-FOUND.md numbers them.
+/// The differences between rules and text that a comparison may meet, as docs/DIFFERENCES.md numbers them.
 #[derive(Clone, Copy, PartialEq, Eq, Debug)]
 pub enum Listed {
     /// Equality and order read the bits after the record, up to the end of its last byte.

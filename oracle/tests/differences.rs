@@ -1,4 +1,4 @@
-//! Each difference between the rules and the crate's text that DIFFERENCES-FOUND.md lists, by running the text on the
+//! Each difference between the rules and the crate's text that docs/DIFFERENCES.md lists, by running the text on the
 //! smallest input found. What the rules say is asked of the model beside it.
 
 use oracle::library::{Answer, Call, Library, Record, Request, Stream};

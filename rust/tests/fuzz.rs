@@ -1,7 +1,7 @@
 //! A bounded, seeded fuzz run over all raw calls: no crash; a refusal is one that the call can give, its place is 0
 //! unless its number is 1, and it changes nothing; an accepted call changes nothing but what it may.
 //!
-//! `QV_FUZZ` sets the number of rounds (default 200,000), `QV_SEED` the seed.
+//! `QV_FUZZ` sets the number of rounds (default 100,000), `QV_SEED` the seed.
 
 mod support;
 
@@ -42,7 +42,7 @@ fn setting(name: &str, default: u64) -> u64 {
 
 #[test]
 fn nothing_changes_on_refusal() {
-    let rounds = setting("QV_FUZZ", 200_000);
+    let rounds = setting("QV_FUZZ", 100_000);
     let mut random = Random(setting("QV_SEED", 0x9E37_79B9_7F4A_7C15) | 1);
     let calls = calls();
     let mut accepted = vec![0u64; calls.len()];
