@@ -144,7 +144,7 @@ uint64_t qv_buffer_width(
 /* Accepted: `answer` is 1 if the node is buffer type n, else 0. Refuses: 1, 2, 6 if n is above 12. */
 uint64_t qv_is_buffer8(
     QV_TABLE,
-    uint64_t n, uint64_t node, uint64_t *answer);
+    uint64_t node, uint64_t n, uint64_t *answer);
 
 /* Accepted: `answer` is 1 if the node is the type of the hash state, else 0. Refuses: 1, 2. */
 uint64_t qv_is_ctx8(

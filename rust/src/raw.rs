@@ -185,7 +185,7 @@ calls! {
     /// The width of buffer n.
     fn buffer_width = "qv_buffer_width"(number n, value width);
     /// Whether a node is buffer type n.
-    fn is_buffer8 = "qv_is_buffer8"(table, number n, number node, value answer);
+    fn is_buffer8 = "qv_is_buffer8"(table, number node, number n, value answer);
     /// Whether a node is the hash state's type.
     fn is_ctx8 = "qv_is_ctx8"(table, number node, value answer);
     /// The payload of a left record: offset and node.

@@ -164,11 +164,11 @@ impl Table {
     /// use quelomavunt::Table;
     /// // 1, 2, 2^2, 2^4, 2^8, 1 + 2^8
     /// let table = Table::from_file(&[6, 0, 1, 0, 0, 2, 1, 1, 2, 2, 2, 2, 3, 3, 1, 0, 4])?;
-    /// assert!(table.is_buffer8(0, 5)? && !table.is_buffer8(1, 5)?);
+    /// assert!(table.is_buffer8(5, 0)? && !table.is_buffer8(5, 1)?);
     /// # Ok::<(), quelomavunt::Refusal>(())
     /// ```
-    pub fn is_buffer8(&self, n: u64, node: usize) -> Result<bool, Refusal> {
-        self.yes_no(|answer| raw::is_buffer8(&self.columns(), n, node as u64, answer))
+    pub fn is_buffer8(&self, node: usize, n: u64) -> Result<bool, Refusal> {
+        self.yes_no(|answer| raw::is_buffer8(&self.columns(), node as u64, n, answer))
     }
 
     /// Whether a node is the type of the hash state. Refuses: 2.

@@ -62,7 +62,7 @@ impl Library for Archive {
             Call::AsWord => raw::as_word(t, q.node, one),
             Call::WordWidth => raw::word_width(q.n, one),
             Call::BufferWidth => raw::buffer_width(q.n, one),
-            Call::IsBuffer8 => raw::is_buffer8(t, q.n, q.node, one),
+            Call::IsBuffer8 => raw::is_buffer8(t, q.node, q.n, one),
             Call::IsCtx8 => raw::is_ctx8(t, q.node, one),
             Call::AsLeft => raw::as_left(t, a, many),
             Call::AsRight => raw::as_right(t, a, many),

@@ -154,7 +154,7 @@ exports! {
     fn qv_as_word = AsWord(table, number node, value);
     fn qv_word_width = WordWidth(number n, value);
     fn qv_buffer_width = BufferWidth(number n, value);
-    fn qv_is_buffer8 = IsBuffer8(table, number n, number node, value);
+    fn qv_is_buffer8 = IsBuffer8(table, number node, number n, value);
     fn qv_is_ctx8 = IsCtx8(table, number node, value);
     fn qv_as_left = AsLeft(table, record a, values);
     fn qv_as_right = AsRight(table, record a, values);

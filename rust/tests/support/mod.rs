@@ -318,7 +318,7 @@ pub fn calls() -> Vec<Call> {
             names: Names::Nothing,
             ..QUESTION
         },
-        Call { name: "is_buffer8", run: on!(w, |t, i, o| raw::is_buffer8(t, i.n, i.node, &mut o.value)), ..QUESTION },
+        Call { name: "is_buffer8", run: on!(w, |t, i, o| raw::is_buffer8(t, i.node, i.n, &mut o.value)), ..QUESTION },
         Call { name: "is_ctx8", run: on!(w, |t, i, o| raw::is_ctx8(t, i.node, &mut o.value)), ..QUESTION },
         Call {
             name: "as_left",
