@@ -1,0 +1,2 @@
+-- What the functions over a table's file answer.
+pub mod Readings

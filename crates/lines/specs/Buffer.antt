@@ -1,0 +1,33 @@
+-- A lent buffer that text is written to.
+--
+--   put                         the buffer with a text at an offset; what lies before and after stays
+--   Wrote                       a text was written, and this is the offset after it
+--   Printed                     a text was written at the front, and this is its length
+--   Reportable                  room for a whole report, and columns that reach the count
+use Prim.Native.Nat.{ℕ, _+_, _*_, _≤_}
+use mathlib.Core.Path.{_≡_}
+use mathlib.Core.List.{List, _++_}
+use lib.ListN.{length, take, drop}
+
+-- The buffer with a text at an offset.
+abbrev pub put : List ℕ → ℕ → List ℕ → List ℕ
+put out at text = take at out ++ text ++ drop (at + length text) out
+
+-- A text was written at an offset: the buffer before and after, and the offset after the text.
+pub record Wrote (before : List ℕ) (at : ℕ) (text after : List ℕ) (next : ℕ) : Type 0 where
+  pub ends : next ≡ at + length text
+  pub holds : after ≡ put before at text
+
+-- A text was written from the front of a buffer: how many bytes it is, and the buffer before and after.
+pub record Printed (before text after : List ℕ) (count : ℕ) : Type 0 where
+  pub counts : count ≡ length text
+  pub holds : after ≡ text ++ drop (length text) before
+
+-- A report of n nodes takes at most 96 bytes a node and 32 for its first line, and each column has an entry for each node.
+pub record Reportable (out kinds widths sizes paddeds classes : List ℕ) (n : ℕ) : Type 0 where
+  pub room : n * 96 + 32 ≤ length out
+  pub kinds-reach : n ≤ length kinds
+  pub widths-reach : n ≤ length widths
+  pub sizes-reach : n ≤ length sizes
+  pub paddeds-reach : n ≤ length paddeds
+  pub classes-reach : n ≤ length classes

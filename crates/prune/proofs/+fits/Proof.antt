@@ -1,0 +1,221 @@
+-- `prune::fits` meets its contract: each return is a rule of the cut, and the walk goes on at the sides of the target, whose numbers are lower.
+-- The measure is the target's number. Assumes nothing.
+use Prim.Native.Nat.{ℕ, _<_, _≤_, _+_}
+use mathlib.Core.Path.{_≡_, refl, ap, ap₂, sym, _∙_, subst}
+use mathlib.Core.Bool.{Bool, true, false, _&&_}
+use native.Mathlib.Omega.{arith}
+use Rattle.meaning.specs.Tables.{Table, table}
+use Rattle.meaning.specs.CutCalls.{isCut, cutOf}
+use Rattle.meaning.specs.Ladder.{record-of}
+use Rattle.prune.proofs.CutSteps.{isCut-rebuilt, isCut-joined}
+use Rattle.prune.proofs.Walks.{Step, SumStep, ProductStep, given-low, goal-low, side-narrow, sum-bits}
+use Rattle.prune.proofs.Walks.{step-equal, step-unit, step-unlike, step-sum, accepts-sum, walk-sum, place-sum, falls-sum}
+use Rattle.prune.proofs.Walks.{first-decides, second-decides, walk-first, walk-second, place-second, falls-first, falls-second}
+use borrow.Fn.Kinds.{In}
+use borrow.Fn.PlainCycle.{Measures, is, falls, and}
+use Rattle.prune.proofs.fits.Reads as fits
+use Rattle.prune.proofs.fits.Kinds as fits-kinds
+use Rattle.prune.proofs.+fits.Lts-fits as fits-lts
+use Rattle.bits.proofs.bit_at.Reads as bit-at-reads
+use Rattle.nodes.proofs.node_at.Reads as node-at-reads
+use Rattle.prune.proofs.under_tag.Reads as under-tag-reads
+use Rattle.prune.proofs.+fits.{statement}
+use Rattle.prune.proofs.+fits.Tie.{close}
+
+abbrev μ-fits : Measures 8 fits-kinds.ps ℕ
+μ-fits κs a = a .1 .1 .1 .1 .1 .1 .1 .1 .1 .1 .1 .0
+
+abbrev fits-at : ℕ → In 8 fits-kinds.ps
+fits-at t = and 8 fits-kinds.ps (is 8 fits-kinds.ps μ-fits t) fits.Pre
+
+abbrev fits-below : ℕ → In 8 fits-kinds.ps
+fits-below t = and 8 fits-kinds.ps (falls 8 fits-kinds.ps _<_ μ-fits t) fits.Pre
+
+abbrev claims : ℕ → fits-lts.Claims
+claims t = (
+  node-at-reads.Asked,
+  node-at-reads.Learnt,
+  bit-at-reads.Asked,
+  bit-at-reads.Learnt,
+  under-tag-reads.Asked,
+  under-tag-reads.Learnt,
+  fits-below t,
+  fits.Post,
+)
+
+-- The two nodes of this step, read, and where they were read.
+abbrev Read : ℕ → Type 0
+Read t = fits-lts.After-node-at2 (claims t) (fits-at t) fits.Post
+
+abbrev start : (t : ℕ) → Read t → fits-lts.Start (claims t) (fits-at t) fits.Post
+start t c = c .before .before .before .before .before .before .before .before .before .before
+
+-- The table that the columns make.
+abbrev of : (t : ℕ) → fits-lts.Start (claims t) (fits-at t) fits.Post → Table
+of t c =
+    table (c .args .kinds .now) (c .args .lefts .now) (c .args .rights .now) (c .args .widths .now) (c .args .sizes .now)
+    (c .args .padded .now) (c .args .classes .now) (c .args .count)
+
+step : (t : ℕ) (c : Read t)
+    → Step (of t (start t c)) (start t c .args .src .now) (start t c .args .at) (start t c .args .node) (start t c .args .target)
+    (c .before .node-at .result) (c .node-at2 .result)
+step t c =
+    record { walk = start t c .pre .1; goal-read = c .before .node-at .ensures; given-read = c .node-at2 .ensures }
+
+fits-node-at-requires : (t : ℕ) → fits-lts.Need-node-at-requires (claims t) (fits-at t) fits.Post
+fits-node-at-requires t c κs =
+    let w = c .before .before .before .before .before .before .before .before .pre .1 in (w .sound, w .target-in)
+
+fits-node-at-requires-2 : (t : ℕ) → fits-lts.Need-node-at-requires-2 (claims t) (fits-at t) fits.Post
+fits-node-at-requires-2 t c κs =
+    let w = c .before .before .before .before .before .before .before .before .before .pre .1 in (w .sound, w .node-in)
+
+fits-returns : (t : ℕ) → fits-lts.Need-returns (claims t) (fits-at t) fits.Post
+fits-returns t c = sym (ap isCut (step-equal (step t (c .before .before .before)) (c .if1 .taken)))
+
+fits-returns-2 : (t : ℕ) → fits-lts.Need-returns-2 (claims t) (fits-at t) fits.Post
+fits-returns-2 t c = sym (ap isCut (step-unit (step t (c .before .before .before .before .before)) (c .if2 .taken)))
+
+fits-returns-3 : (t : ℕ) → fits-lts.Need-returns-3 (claims t) (fits-at t) fits.Post
+fits-returns-3 t c =
+    sym
+    (ap isCut
+    (step-unlike (step t (c .before .before .before .before .before .before .before .before)) (c .before .before .before .if2 .left) (c .if3 .taken)))
+
+-- At a sum.
+abbrev Sum : ℕ → Type 0
+Sum t = fits-lts.Then4 (claims t) (fits-at t) fits.Post
+
+abbrev read-sum : (t : ℕ) → Sum t → Read t
+read-sum t c = c .before .before .before .before .before .before .before .before .before .before
+
+given-sum : (t : ℕ) (c : Sum t) → read-sum t c .node-at2 .result .kind ≡ 1
+given-sum t c = sym (c .before .before .if3 .left) ∙ c .if4 .taken
+
+fits-bit-at-requires : (t : ℕ) → fits-lts.Need-bit-at-requires (claims t) (fits-at t) fits.Post
+fits-bit-at-requires t c κs =
+    let r = read-sum t c in
+    let s = step t r in
+    let n = sum-bits (of t (start t r)) (start t r .args .node) (r .node-at2 .result) (s .given-read) (given-low s) (given-sum t c) in
+    let i = s .walk .lies .inside in
+    omega arith
+
+fits-under-tag-requires : (t : ℕ) → fits-lts.Need-under-tag-requires (claims t) (fits-at t) fits.Post
+fits-under-tag-requires t c κs =
+    let r = read-sum t (c .before) in
+    let s = step t r in
+    side-narrow (of t (start t r)) (start t r .args .node) (r .node-at2 .result) (s .given-read) (given-low s) (c .bit-at .result)
+    (given-sum t (c .before))
+
+fits-under-tag-requires-2 : (t : ℕ) → fits-lts.Need-under-tag-requires-2 (claims t) (fits-at t) fits.Post
+fits-under-tag-requires-2 t c κs =
+    let r = read-sum t (c .before .before) in
+    let s = step t r in
+    side-narrow (of t (start t r)) (start t r .args .target) (r .before .node-at .result) (s .goal-read) (goal-low s)
+    (c .before .bit-at .result) (c .before .before .if4 .taken)
+
+-- The payloads of both.
+abbrev Tagged : ℕ → Type 0
+Tagged t = fits-lts.After-under-tag2 (claims t) (fits-at t) fits.Post
+
+abbrev start-sum : (t : ℕ) → Tagged t → fits-lts.Start (claims t) (fits-at t) fits.Post
+start-sum t c = start t (read-sum t (c .before .before .before))
+
+sum-step : (t : ℕ) (c : Tagged t)
+    → SumStep (of t (start-sum t c)) (start-sum t c .args .src .now) (start-sum t c .args .at) (start-sum t c .args .node)
+    (start-sum t c .args .target) (read-sum t (c .before .before .before) .before .node-at .result)
+    (read-sum t (c .before .before .before) .node-at2 .result) (c .before .before .bit-at .result) (c .before .under-tag .result)
+    (c .under-tag2 .result)
+sum-step t c =
+    let s = c .before .before .before in
+    record {
+      step = step t (read-sum t s);
+      differ = s .before .before .before .before .before .before .before .if1 .left;
+      goal-sum = s .if4 .taken;
+      given-sum = given-sum t s;
+      tag-is = c .before .before .bit-at .ensures;
+      from = c .before .under-tag .ensures;
+      to = c .under-tag2 .ensures;
+    }
+
+fits-add-fits : (t : ℕ) → fits-lts.Need-add-fits (claims t) (fits-at t) fits.Post
+fits-add-fits t c = let p = place-sum (sum-step t (c .before)) in record { fits = omega arith }
+
+fits-fits-requires : (t : ℕ) → fits-lts.Need-fits-requires (claims t) (fits-at t) fits.Post
+fits-fits-requires t c κs =
+    let s = sum-step t (c .before) in
+    (subst (λ (n : ℕ). c .before .under-tag2 .result .node < n) (start-sum t (c .before) .pre .0) (falls-sum s), walk-sum s)
+
+fits-returns-4 : (t : ℕ) → fits-lts.Need-returns-4 (claims t) (fits-at t) fits.Post
+fits-returns-4 t c = c .fits2 .ensures ∙ sym (accepts-sum (sum-step t (c .before .before)))
+
+-- At a product.
+abbrev Product : ℕ → Type 0
+Product t = fits-lts.Else4 (claims t) (fits-at t) fits.Post
+
+abbrev read-product : (t : ℕ) → Product t → Read t
+read-product t c = c .before .before .before .before .before .before .before .before .before .before
+
+abbrev start-product : (t : ℕ) → Product t → fits-lts.Start (claims t) (fits-at t) fits.Post
+start-product t c = start t (read-product t c)
+
+product-step : (t : ℕ) (c : Product t)
+    → ProductStep (of t (start-product t c)) (start-product t c .args .src .now) (start-product t c .args .at) (start-product t c .args .node)
+    (start-product t c .args .target) (read-product t c .before .node-at .result) (read-product t c .node-at2 .result)
+product-step t c =
+    let s = step t (read-product t c) in
+    let low = s .goal-read .kind-low in
+    let some-side = c .before .before .before .before .before .if2 .left in
+    let no-sum = c .if4 .left in
+    let two : read-product t c .before .node-at .result .kind ≡ 2 = omega arith in
+    record {
+      step = s;
+      differ = c .before .before .before .before .before .before .before .if1 .left;
+      goal-product = two;
+      given-product = sym (c .before .before .if3 .left) ∙ two;
+    }
+
+fits-fits-requires-2 : (t : ℕ) → fits-lts.Need-fits-requires-2 (claims t) (fits-at t) fits.Post
+fits-fits-requires-2 t c κs =
+    let s = product-step t c in
+    (subst (λ (n : ℕ). read-product t c .before .node-at .result .left < n) (start-product t c .pre .0) (falls-first s), walk-first s)
+
+fits-returns-5 : (t : ℕ) → fits-lts.Need-returns-5 (claims t) (fits-at t) fits.Post
+fits-returns-5 t c =
+    first-decides (product-step t (c .before .before)) (c .before .fits3 .result) (c .before .fits3 .ensures) (c .if5 .taken)
+
+fits-add-fits-2 : (t : ℕ) → fits-lts.Need-add-fits-2 (claims t) (fits-at t) fits.Post
+fits-add-fits-2 t c = let p = place-second (product-step t (c .before .before)) in record { fits = omega arith }
+
+fits-fits-requires-3 : (t : ℕ) → fits-lts.Need-fits-requires-3 (claims t) (fits-at t) fits.Post
+fits-fits-requires-3 t c κs =
+    let e = c .before .before in
+    let s = product-step t e in
+    (subst (λ (n : ℕ). read-product t e .before .node-at .result .right < n) (start-product t e .pre .0) (falls-second s), walk-second s)
+
+fits-returns-6 : (t : ℕ) → fits-lts.Need-returns-6 (claims t) (fits-at t) fits.Post
+fits-returns-6 t c =
+    let e = c .before .before in
+    second-decides (product-step t (e .before)) (e .fits3 .result) (c .fits4 .result) (e .fits3 .ensures) (c .before .if5 .left)
+    (c .fits4 .ensures)
+
+pub +fits-spec : {M : Type 1} → statement M
++fits-spec = close μ-fits λ t. fits-lts.spec (claims t)
+    (fits-at t)
+    fits.Post
+    (fits-node-at-requires t)
+    (fits-node-at-requires-2 t)
+    (fits-returns t)
+    (fits-returns-2 t)
+    (fits-returns-3 t)
+    (fits-bit-at-requires t)
+    (fits-under-tag-requires t)
+    (fits-under-tag-requires-2 t)
+    (fits-add-fits t)
+    (fits-fits-requires t)
+    (fits-returns-4 t)
+    (fits-fits-requires-2 t)
+    (fits-returns-5 t)
+    (fits-add-fits-2 t)
+    (fits-fits-requires-3 t)
+    (fits-returns-6 t)
