@@ -12,7 +12,7 @@ ghost use Rattle.facts.specs.Chains.{slot, slotAt, Last, Keyed, Chained}
 ghost use Rattle.facts.specs.Known.{Reach, FactsReach, FullReach, SideTold, Seeking, Classing, Ready, Told, Fillable, Filled};
 
 // The facts of a node, and the slot of its key.
-pub struct Found {
+struct Found {
     pub width: u64,
     pub size: u64,
     pub padded: u8,
@@ -21,7 +21,7 @@ pub struct Found {
 }
 
 // The facts of a side of a node.
-pub struct Side {
+struct Side {
     pub width: u64,
     pub size: u64,
     pub padded: u8,
