@@ -3,7 +3,7 @@
 --   put-none put-length         no text changes nothing; a buffer keeps its length
 --   put-put                     one text after another is both
 --   wrote-none wrote-byte       no text, and one byte
---   wrote-then                  one text after another
+--   wrote-then wrote-short      one text after another
 --   wrote-length                a buffer that was written to keeps its length
 --   wrote-within                a short text ends soon
 --   wrote-text                  another name of the same text
@@ -55,6 +55,11 @@ wrote-then {b} {at} {s} {m} {x} {t} {a} {y} w h v =
       ends = (let e = w .ends in let f = v .ends in omega (arith, length-append s t));
       holds = v .holds ∙ (λ i. put (w .holds i) (w .ends i) t) ∙ put-put b at s t h;
     }
+
+-- The same, where the first text is known to be short.
+pub wrote-short : {b : List ℕ} {at : ℕ} {s m : List ℕ} {x k : ℕ} {t a : List ℕ} {y : ℕ} → Wrote b at s m x → length s ≤ k → at + k ≤ length b
+    → Wrote m x t a y → Wrote b at (s ++ t) a y
+wrote-short w short room v = wrote-then w (omega arith) v
 
 pub wrote-length : (b : List ℕ) (at : ℕ) (s a : List ℕ) (x : ℕ) → at + length s ≤ length b → Wrote b at s a x → length a ≡ length b
 wrote-length b at s a x h w = ap length (w .holds) ∙ put-length b at s h

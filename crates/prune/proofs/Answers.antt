@@ -7,20 +7,20 @@
 --   starts walk-lent            it begins within the bytes, and the walks may be sent there
 --   cut-length column-width     the cut has as many bits as the target, which is the width that the table tells
 -- Assumes nothing.
-use mathlib.Core.Path.{_≡_, refl, ap, sym, _∙_}
+use mathlib.Core.Path.{_≡_, ap, sym, _∙_}
 use mathlib.Core.Bool.{Bool, true, false, not}
-use mathlib.Core.List.{List, [], _∷_, _++_}
+use mathlib.Core.List.{List, [], _∷_}
 use mathlib.Core.Option.{Option}
-use Prim.Native.Nat.{ℕ, _+_, _-_, _*_, _/_, _%_, _≤_, _<_}
+use Prim.Native.Nat.{ℕ, _-_, _/_, _%_, _≤_, _<_}
 use native.Mathlib.Omega.{arith}
 use lib.Dec.{ltb}
 use lib.ListN.{length, getD, take, drop, length-take, length-drop}
 use borrow.Author.Tests.{lt-ltb, le-ltb}
 use Rattle.meaning.specs.Types.{bits}
 use Rattle.meaning.specs.Tables.{Table}
-use Rattle.meaning.specs.Bits.{bitsOf, room, written}
+use Rattle.meaning.specs.Bits.{room, written}
 use Rattle.meaning.specs.Cuts.{cut}
-use Rattle.meaning.specs.Ladder.{Answer, refused, accepted, ladder, Record, record-of, typeAt, recordBits, shaped, roomFor}
+use Rattle.meaning.specs.Ladder.{refused, accepted, ladder, Record, record-of, typeAt, recordBits, shaped, roomFor}
 use Rattle.meaning.specs.RecordCalls.{handed}
 use Rattle.meaning.specs.CutCalls.{isCut, cutBits, cutOf, pruneRungs, pruneCall, pruneOut}
 use Rattle.meaning.proofs.Ladders.{ladder-pass, ladder-stop, ladder-holds, ladder-fails, kept-refused, kept-accepted}

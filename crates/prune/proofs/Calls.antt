@@ -12,18 +12,18 @@
 --   prune-compact               records with the same compact bits are accepted alike, with the same compact bits
 --   prune-own-bits              answer and output depend on the record's own bits alone
 -- Assumes nothing.
-use mathlib.Core.Path.{_≡_, refl, ap, ap₂, sym, _∙_, subst}
+use mathlib.Core.Path.{_≡_, ap, ap₂, sym, _∙_, subst}
 use mathlib.Core.Bool.{Bool, true, false, not, _||_}
 use mathlib.Core.List.{List, [], _∷_, _++_, append-assoc}
-use mathlib.Core.Option.{Option, none, some, Option·some-injective}
-use Prim.Native.Nat.{ℕ, _+_, _-_, _*_, _≤_, _<_}
+use mathlib.Core.Option.{Option, none, some}
+use Prim.Native.Nat.{ℕ, _+_, _-_, _*_, _≤_}
 use native.Mathlib.Omega.{arith}
 use lib.Dec.{ltb, leb}
 use lib.ListN.{length, take, drop}
 use lib.Seq.{take-at}
 use borrow.Author.Tests.{lt-leb, le-ltb, ltb-false, not-false}
 use Rattle.meaning.specs.Types.{Ty, unit, bits, size}
-use Rattle.meaning.specs.Tables.{Table, tyAt}
+use Rattle.meaning.specs.Tables.{Table}
 use Rattle.meaning.specs.Bits.{bitsOf, zeros, room, packTo, pack, written}
 use Rattle.meaning.specs.Records.{compact, plain}
 use Rattle.meaning.specs.Cuts.{cut}

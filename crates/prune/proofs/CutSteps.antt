@@ -8,16 +8,16 @@
 --   isCut-rebuilt isCut-joined cutBits-rebuilt cutBits-joined cut-is      acceptance and bits of what was put together
 --   pasted-tag                  a tag, zero bits and a payload, written one after the other
 -- Assumes nothing.
-use mathlib.Core.Path.{_≡_, refl, ap, ap₂, sym, _∙_}
+use mathlib.Core.Path.{_≡_, refl, ap, ap₂, _∙_}
 use mathlib.Core.Bool.{Bool, true, false, _&&_, false≢true}
-use mathlib.Core.List.{List, [], _∷_, _++_, append-assoc}
+use mathlib.Core.List.{List, [], _∷_, _++_}
 use mathlib.Core.Option.{Option, none, some}
 use Prim.Native.Nat.{ℕ, zero, suc, _+_, _-_, _≤_, _<_}
 use native.Mathlib.Nat.{add-zero}
 use native.Mathlib.Omega.{arith}
-use lib.ListN.{length, getD, set, take, drop, length-append, length-replicate}
+use lib.ListN.{length, getD, set, take, drop, length-replicate}
 use lib.Seq.{paste}
-use Rattle.meaning.specs.Types.{Ty, unit, sum, prod, same, bits}
+use Rattle.meaning.specs.Types.{Ty, sum, prod, same, bits}
 use Rattle.meaning.specs.Tables.{node}
 use Rattle.meaning.specs.Bits.{zeros}
 use Rattle.meaning.specs.Records.{tag, padLeft, padRight, firstOf, secondOf}

@@ -4,18 +4,18 @@
 --   written-equal written-unit written-sum written-product      one for each rule
 --   lies-sum lies-first lies-second     where the payload and the parts have their place in the output
 -- Assumes nothing.
-use mathlib.Core.Path.{_≡_, refl, ap, ap₂, sym, _∙_, subst}
-use mathlib.Core.Bool.{Bool, true, false, _&&_}
-use mathlib.Core.List.{List, [], _∷_, _++_}
-use Prim.Native.Nat.{ℕ, zero, suc, _+_, _-_, _*_, _≤_, _<_}
+use mathlib.Core.Path.{_≡_, ap, ap₂, sym, _∙_}
+use mathlib.Core.Bool.{Bool, true}
+use mathlib.Core.List.{List}
+use Prim.Native.Nat.{ℕ, _+_, _-_, _≤_, _<_}
 use native.Mathlib.Omega.{arith}
-use lib.ListN.{length, set, take, drop}
+use lib.ListN.{length, set, drop}
 use lib.Seq.{paste, paste-zero}
-use Rattle.meaning.specs.Types.{Ty, bits}
+use Rattle.meaning.specs.Types.{bits}
 use Rattle.meaning.specs.Tables.{Table}
 use Rattle.meaning.specs.Bits.{bitsOf, zeros}
 use Rattle.meaning.specs.Ladder.{record-of, typeAt, recordBits}
-use Rattle.meaning.specs.CutCalls.{isCut, cutBits, cutOf}
+use Rattle.meaning.specs.CutCalls.{cutBits, cutOf}
 use Rattle.meaning.proofs.Tests.{and-left, and-right}
 use Rattle.nodes.specs.declared.Node.{Node}
 use Rattle.bits.proofs.OfBytes.{length-bitsOf}
@@ -24,7 +24,7 @@ use Rattle.laws.proofs.CutSides.{wrapped}
 use Rattle.prune.specs.Walks.{Lies}
 use Rattle.prune.specs.declared.Payload.{Payload}
 use Rattle.prune.proofs.CutSteps.{cutBits-rebuilt, cutBits-joined, pasted-tag}
-use Rattle.prune.proofs.Walks.{Step, SumStep, ProductStep, cuts, cut-bits, step-equal, equal-width, equal-bits, step-unit, unit-width}
+use Rattle.prune.proofs.Walks.{Step, SumStep, ProductStep, cuts, cut-bits, step-equal, equal-width, equal-bits, unit-width}
 use Rattle.prune.proofs.Walks.{step-sum, accepts-sum, spans-sum, before-sum, wrapped-sum, step-product, accepts-product, first-product, spans-product, walk-first}
 
 -- The output `out` became `new`.

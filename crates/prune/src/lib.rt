@@ -80,16 +80,20 @@ fn fits(
         count,
         node,
     );
-    if goal.class == given.class {
+    let goal_class = goal.class;
+    let given_class = given.class;
+    if goal_class == given_class {
         return true;
     }
-    if goal.kind == 0 {
+    let goal_kind = goal.kind;
+    let given_kind = given.kind;
+    if goal_kind == 0 {
         return true;
     }
-    if goal.kind != given.kind {
+    if goal_kind != given_kind {
         return false;
     }
-    if goal.kind == 1 {
+    if goal_kind == 1 {
         let tag = bits::bit_at(src, at);
         let from = under_tag(given, tag);
         let to = under_tag(goal, tag);
@@ -162,7 +166,7 @@ fn write(
     requires { ⌜ Lies (now out) to (bits (typeAt (table (now kinds) (now lefts) (now rights) (now widths) (now sizes) (now padded) (now classes) count) target)) ⌝ }
     ensures { λ _. ⌜ bitsOf (now (out .exit)) ≡ paste (bitsOf (now (out .entry))) to (cutBits (cutOf (table (now (kinds .entry)) (now (lefts .entry)) (now (rights .entry)) (now (widths .entry)) (now (sizes .entry)) (now (padded .entry)) (now (classes .entry)) count) (record-of (now (src .entry)) at node) target)) (bits (typeAt (table (now (kinds .entry)) (now (lefts .entry)) (now (rights .entry)) (now (widths .entry)) (now (sizes .entry)) (now (padded .entry)) (now (classes .entry)) count) target)) ⌝ }
 {
-    let goal = nodes::node_at(
+    let wanted = nodes::node_at(
         kinds,
         lefts,
         rights,
@@ -173,7 +177,7 @@ fn write(
         count,
         target,
     );
-    let given = nodes::node_at(
+    let held = nodes::node_at(
         kinds,
         lefts,
         rights,
@@ -184,19 +188,23 @@ fn write(
         count,
         node,
     );
-    if goal.class == given.class {
-        bits::copy_bits(src, at, out, to, goal.width as usize);
+    let wanted_class = wanted.class;
+    let held_class = held.class;
+    if wanted_class == held_class {
+        bits::copy_bits(src, at, out, to, wanted.width as usize);
         return;
     }
-    if goal.kind == 0 {
+    let wanted_kind = wanted.kind;
+    if wanted_kind == 0 {
         return;
     }
-    if goal.kind == 1 {
+    if wanted_kind == 1 {
         let tag = bits::bit_at(src, at);
-        let from = under_tag(given, tag);
-        let payload = under_tag(goal, tag);
+        let source = under_tag(held, tag);
+        let place = under_tag(wanted, tag);
+        let before = place.before;
         bits::put_bit(out, to, tag);
-        bits::clear_bits(out, to + 1, payload.before - 1);
+        bits::clear_bits(out, to + 1, before - 1);
         write(
             kinds,
             lefts,
@@ -207,11 +215,11 @@ fn write(
             classes,
             count,
             src,
-            at + from.before,
-            from.node,
-            payload.node,
+            at + source.before,
+            source.node,
+            place.node,
             out,
-            to + payload.before,
+            to + before,
         );
         return;
     }
@@ -226,8 +234,8 @@ fn write(
         count,
         src,
         at,
-        given.left,
-        goal.left,
+        held.left,
+        wanted.left,
         out,
         to,
     );
@@ -241,11 +249,11 @@ fn write(
         classes,
         count,
         src,
-        at + given.left_width as usize,
-        given.right,
-        goal.right,
+        at + held.left_width as usize,
+        held.right,
+        wanted.right,
         out,
-        to + goal.left_width as usize,
+        to + wanted.left_width as usize,
     );
 }
 

@@ -5,7 +5,7 @@ use native.Mathlib.Omega.{arith}
 use lib.ListN.{length}
 use borrow.Author.Needs.{needs}
 use Rattle.lines.proofs.Decimals.{number-room, byte-room, kind-room}
-use Rattle.lines.proofs.Puts.{wrote-then, wrote-within}
+use Rattle.lines.proofs.Puts.{wrote-short, wrote-within}
 use Rattle.lines.proofs.node_line.Statement.{statement}
 use Rattle.lines.proofs.node_line.Tie as tie
 
@@ -90,11 +90,11 @@ returns c =
     let kind = width .before .before .before .before in
     let k = kind .before .before .before .before in
     let a = from-k k .args in
-    wrote-then (k .put-number .ensures) (omega (arith, number-room (a .k) 32, from-k k .pre))
-    (wrote-then (kind .put-kind .ensures) (let r = room-k k in omega (arith, kind-room (a .kind)))
-    (wrote-then (width .put-number2 .ensures) (let r = room-kind kind in omega (arith, number-room (a .width) 32))
-    (wrote-then (size .put-number3 .ensures) (let r = room-width width in omega (arith, number-room (a .size) 32))
-    (wrote-then (padded .put-number4 .ensures) (let r = room-size size in omega (arith, number-room (a .padded) 32))
+    wrote-short (k .put-number .ensures) (number-room _ _) (omega (arith, from-k k .pre))
+    (wrote-short (kind .put-kind .ensures) (kind-room (a .kind)) (let r = room-k k in omega arith)
+    (wrote-short (width .put-number2 .ensures) (number-room _ _) (let r = room-kind kind in omega arith)
+    (wrote-short (size .put-number3 .ensures) (number-room _ _) (let r = room-width width in omega arith)
+    (wrote-short (padded .put-number4 .ensures) (number-room _ _) (let r = room-size size in omega arith)
     (class .put-number5 .ensures)))))
 
 pub node-line-spec : {M : Type 1} → statement M

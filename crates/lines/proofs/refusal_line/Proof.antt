@@ -4,7 +4,7 @@ use native.Mathlib.Omega.{arith}
 use lib.ListN.{length}
 use borrow.Author.Needs.{needs}
 use Rattle.lines.proofs.Decimals.{number-room}
-use Rattle.lines.proofs.Puts.{wrote-then, wrote-within, printed}
+use Rattle.lines.proofs.Puts.{wrote-then, wrote-short, wrote-within, printed}
 use Rattle.lines.proofs.refusal_line.Statement.{statement}
 use Rattle.lines.proofs.refusal_line.Tie as tie
 
@@ -58,7 +58,7 @@ returns c =
     let r = room number in
     printed
     (wrote-then (word .put-word .ensures) (omega (arith, s .pre))
-    (wrote-then (number .put-number .ensures) (omega (arith, s .pre, word .put-word .ensures .ends, word .put-word .kept .0, number-room (s .args .number) 32))
+    (wrote-short (number .put-number .ensures) (number-room _ _) (omega (arith, s .pre, word .put-word .ensures .ends, word .put-word .kept .0))
     (wrote-then (at .put-word2 .ensures) (omega arith)
     (place .put-number2 .ensures))))
 

@@ -1,15 +1,13 @@
 -- `prune::fits` meets its contract: each return is a rule of the cut, and the walk goes on at the sides of the target, whose numbers are lower.
 -- The measure is the target's number. Assumes nothing.
-use Prim.Native.Nat.{ℕ, _<_, _≤_, _+_}
-use mathlib.Core.Path.{_≡_, refl, ap, ap₂, sym, _∙_, subst}
-use mathlib.Core.Bool.{Bool, true, false, _&&_}
+use Prim.Native.Nat.{ℕ, _<_}
+use mathlib.Core.Path.{_≡_, ap, sym, _∙_, subst}
 use native.Mathlib.Omega.{arith}
 use Rattle.meaning.specs.Tables.{Table, table}
-use Rattle.meaning.specs.CutCalls.{isCut, cutOf}
-use Rattle.meaning.specs.Ladder.{record-of}
-use Rattle.prune.proofs.CutSteps.{isCut-rebuilt, isCut-joined}
-use Rattle.prune.proofs.Walks.{Step, SumStep, ProductStep, given-low, goal-low, side-narrow, sum-bits}
-use Rattle.prune.proofs.Walks.{step-equal, step-unit, step-unlike, step-sum, accepts-sum, walk-sum, place-sum, falls-sum}
+use Rattle.meaning.specs.CutCalls.{isCut}
+use Rattle.prune.proofs.Sides.{side-narrow, sum-bits}
+use Rattle.prune.proofs.Walks.{Step, SumStep, ProductStep, given-low, goal-low}
+use Rattle.prune.proofs.Walks.{step-equal, step-unit, step-unlike, accepts-sum, walk-sum, place-sum, falls-sum}
 use Rattle.prune.proofs.Walks.{first-decides, second-decides, walk-first, walk-second, place-second, falls-first, falls-second}
 use borrow.Fn.Kinds.{In}
 use borrow.Fn.PlainCycle.{Measures, is, falls, and}
@@ -71,26 +69,23 @@ fits-node-at-requires-2 t c κs =
     let w = c .before .before .before .before .before .before .before .before .before .pre .1 in (w .sound, w .node-in)
 
 fits-returns : (t : ℕ) → fits-lts.Need-returns (claims t) (fits-at t) fits.Post
-fits-returns t c = sym (ap isCut (step-equal (step t (c .before .before .before)) (c .if1 .taken)))
+fits-returns t c = sym (ap isCut (step-equal (step t (c .before)) (c .if1 .taken)))
 
 fits-returns-2 : (t : ℕ) → fits-lts.Need-returns-2 (claims t) (fits-at t) fits.Post
-fits-returns-2 t c = sym (ap isCut (step-unit (step t (c .before .before .before .before .before)) (c .if2 .taken)))
+fits-returns-2 t c = sym (ap isCut (step-unit (step t (c .before .before)) (c .if2 .taken)))
 
 fits-returns-3 : (t : ℕ) → fits-lts.Need-returns-3 (claims t) (fits-at t) fits.Post
-fits-returns-3 t c =
-    sym
-    (ap isCut
-    (step-unlike (step t (c .before .before .before .before .before .before .before .before)) (c .before .before .before .if2 .left) (c .if3 .taken)))
+fits-returns-3 t c = sym (ap isCut (step-unlike (step t (c .before .before .before)) (c .before .if2 .left) (c .if3 .taken)))
 
 -- At a sum.
 abbrev Sum : ℕ → Type 0
 Sum t = fits-lts.Then4 (claims t) (fits-at t) fits.Post
 
 abbrev read-sum : (t : ℕ) → Sum t → Read t
-read-sum t c = c .before .before .before .before .before .before .before .before .before .before
+read-sum t c = c .before .before .before .before
 
 given-sum : (t : ℕ) (c : Sum t) → read-sum t c .node-at2 .result .kind ≡ 1
-given-sum t c = sym (c .before .before .if3 .left) ∙ c .if4 .taken
+given-sum t c = sym (c .before .if3 .left) ∙ c .if4 .taken
 
 fits-bit-at-requires : (t : ℕ) → fits-lts.Need-bit-at-requires (claims t) (fits-at t) fits.Post
 fits-bit-at-requires t c κs =
@@ -130,7 +125,7 @@ sum-step t c =
     let s = c .before .before .before in
     record {
       step = step t (read-sum t s);
-      differ = s .before .before .before .before .before .before .before .if1 .left;
+      differ = s .before .before .before .if1 .left;
       goal-sum = s .if4 .taken;
       given-sum = given-sum t s;
       tag-is = c .before .before .bit-at .ensures;
@@ -154,7 +149,7 @@ abbrev Product : ℕ → Type 0
 Product t = fits-lts.Else4 (claims t) (fits-at t) fits.Post
 
 abbrev read-product : (t : ℕ) → Product t → Read t
-read-product t c = c .before .before .before .before .before .before .before .before .before .before
+read-product t c = c .before .before .before .before
 
 abbrev start-product : (t : ℕ) → Product t → fits-lts.Start (claims t) (fits-at t) fits.Post
 start-product t c = start t (read-product t c)
@@ -165,14 +160,14 @@ product-step : (t : ℕ) (c : Product t)
 product-step t c =
     let s = step t (read-product t c) in
     let low = s .goal-read .kind-low in
-    let some-side = c .before .before .before .before .before .if2 .left in
+    let some-side = c .before .before .if2 .left in
     let no-sum = c .if4 .left in
     let two : read-product t c .before .node-at .result .kind ≡ 2 = omega arith in
     record {
       step = s;
-      differ = c .before .before .before .before .before .before .before .if1 .left;
+      differ = c .before .before .before .if1 .left;
       goal-product = two;
-      given-product = sym (c .before .before .if3 .left) ∙ two;
+      given-product = sym (c .before .if3 .left) ∙ two;
     }
 
 fits-fits-requires-2 : (t : ℕ) → fits-lts.Need-fits-requires-2 (claims t) (fits-at t) fits.Post

@@ -1,12 +1,12 @@
 -- `prune::write` meets its contract: each return has written what a rule of the cut says, and the walk goes on at the sides of the target, whose
 -- numbers are lower. The measure is the target's number. Assumes nothing.
-use Prim.Native.Nat.{ℕ, _<_, _≤_, _+_, _-_}
-use mathlib.Core.Path.{_≡_, refl, ap, ap₂, sym, _∙_, subst}
-use mathlib.Core.Bool.{Bool, true, false, _&&_}
+use Prim.Native.Nat.{ℕ, _<_}
+use mathlib.Core.Path.{_≡_, sym, _∙_, subst}
 use native.Mathlib.Omega.{arith}
 use lib.ListN.{length}
 use Rattle.meaning.specs.Tables.{Table, table}
-use Rattle.prune.proofs.Walks.{Step, SumStep, ProductStep, given-low, goal-low, sum-bits, side-narrow, equal-width, equal-bits, step-like}
+use Rattle.prune.proofs.Sides.{side-narrow, sum-bits}
+use Rattle.prune.proofs.Walks.{Step, SumStep, ProductStep, given-low, goal-low, equal-width, equal-bits, step-like}
 use Rattle.prune.proofs.Walks.{accepts-sum, walk-sum, place-sum, falls-sum, before-sum, spans-sum}
 use Rattle.prune.proofs.Walks.{walk-first, walk-second, place-second, falls-first, falls-second, spans-product}
 use Rattle.prune.proofs.Writes.{written-equal, written-unit, lies-sum, written-sum}
@@ -82,7 +82,7 @@ write-node-at-requires-2 t c κs =
 -- Equal types.
 write-copy-bits-requires : (t : ℕ) → write-lts.Need-copy-bits-requires (claims t) (write-at t) write.Post
 write-copy-bits-requires t c κs =
-    let r = c .before .before .before .before in
+    let r = c .before .before in
     let s = step t r in
     let e = c .before .if1 .taken in
     let w = equal-width s e in
@@ -97,14 +97,14 @@ write-same-length t c = c .before .before .copy-bits .kept .1 .1 .0
 write-returns : (t : ℕ) → write-lts.Need-returns (claims t) (write-at t) write.Post
 write-returns t c =
     let d = c .before .before in
-    let r = d .before .before .before .before .before in
+    let r = d .before .before .before in
     written-equal (step t r) (start t r .args .out .now) (start t r .args .to) (d .copy-bits .last .1 .1 .0) (d .before .before .if1 .taken)
     (d .copy-bits .ensures)
 
 -- Unit.
 write-returns-2 : (t : ℕ) → write-lts.Need-returns-2 (claims t) (write-at t) write.Post
 write-returns-2 t c =
-    let r = c .before .before .before .before .before in
+    let r = c .before .before in
     written-unit (step t r) (start t r .args .out .now) (start t r .args .to) (c .if2 .taken)
 
 -- At a sum.
@@ -112,11 +112,11 @@ abbrev Sum : ℕ → Type 0
 Sum t = write-lts.Then3 (claims t) (write-at t) write.Post
 
 abbrev read-sum : (t : ℕ) → Sum t → Read t
-read-sum t c = c .before .before .before .before .before .before .before
+read-sum t c = c .before .before .before
 
 given-sum : (t : ℕ) (c : Sum t) → read-sum t c .node-at2 .result .kind ≡ 1
 given-sum t c =
-    sym (step-like (step t (read-sum t c)) (c .before .before .if2 .left) (start t (read-sum t c) .pre .1 .1 .0)) ∙ c .if3 .taken
+    sym (step-like (step t (read-sum t c)) (c .before .if2 .left) (start t (read-sum t c) .pre .1 .1 .0)) ∙ c .if3 .taken
 
 write-bit-at-requires : (t : ℕ) → write-lts.Need-bit-at-requires (claims t) (write-at t) write.Post
 write-bit-at-requires t c κs =
@@ -156,7 +156,7 @@ sum-step t c =
     let s = c .before .before .before in
     record {
       step = step t (read-sum t s);
-      differ = s .before .before .before .before .if1 .left;
+      differ = s .before .before .if1 .left;
       goal-sum = s .if3 .taken;
       given-sum = given-sum t s;
       tag-is = c .before .before .bit-at .ensures;
@@ -182,16 +182,16 @@ write-add-clear-bits t c =
     record { fits = omega arith }
 
 write-sub-clear-bits : (t : ℕ) → write-lts.Need-sub-clear-bits (claims t) (write-at t) write.Post
-write-sub-clear-bits t c = before-sum (sum-step t (c .before .before .before .before .before .before))
+write-sub-clear-bits t c = before-sum (sum-step t (c .before .before .before .before .before))
 
 write-clear-bits-requires : (t : ℕ) → write-lts.Need-clear-bits-requires (claims t) (write-at t) write.Post
 write-clear-bits-requires t c κs =
-    let d = c .before .before .before .before .before .before in
+    let d = c .before .before .before .before .before in
     let s = sum-step t d in
     let o = start-sum t d .pre .1 .1 .1 in
     let n = before-sum s in
     let k = spans-sum s in
-    let l = c .before .before .before .before .put-bit .kept .0 in
+    let l = c .before .before .before .put-bit .kept .0 in
     record { inside = omega arith; counted = omega arith }
 
 -- Tag and padding are written.
@@ -199,24 +199,24 @@ abbrev Cleared : ℕ → Type 0
 Cleared t = write-lts.After-clear-bits (claims t) (write-at t) write.Post
 
 abbrev tagged : (t : ℕ) → Cleared t → Tagged t
-tagged t c = c .before .before .before .before .before .before .before
+tagged t c = c .before .before .before .before .before .before
 
 write-add-write : (t : ℕ) → write-lts.Need-add-write (claims t) (write-at t) write.Post
 write-add-write t c = let p = place-sum (sum-step t (tagged t (c .before .before .before))) in record { fits = omega arith }
 
 write-add-write-2 : (t : ℕ) → write-lts.Need-add-write-2 (claims t) (write-at t) write.Post
 write-add-write-2 t c =
-    let d = tagged t (c .before .before .before .before .before) in
+    let d = tagged t (c .before .before .before .before) in
     let o = start-sum t d .pre .1 .1 .1 in
     let k = spans-sum (sum-step t d) in
     record { fits = omega arith }
 
 kept-sum : (t : ℕ) (c : Cleared t) → length (c .clear-bits .last .0) ≡ length (start-sum t (tagged t c) .args .out .now)
-kept-sum t c = c .clear-bits .kept .0 ∙ c .before .before .before .before .before .put-bit .kept .0
+kept-sum t c = c .clear-bits .kept .0 ∙ c .before .before .before .before .put-bit .kept .0
 
 write-write-requires : (t : ℕ) → write-lts.Need-write-requires (claims t) (write-at t) write.Post
 write-write-requires t c κs =
-    let d = c .before .before .before .before .before in
+    let d = c .before .before .before .before in
     let e = tagged t d in
     let s = sum-step t e in
     let a = start-sum t e in (
@@ -231,14 +231,14 @@ write-write-requires t c κs =
     )
 
 write-same-length-2 : (t : ℕ) → write-lts.Need-same-length-2 (claims t) (write-at t) write.Post
-write-same-length-2 t c = c .before .before .write .kept .1 .1 .1 .1 .1 .1 .1 .1 .1 .1 .1 .1 .0 ∙ kept-sum t (c .before .before .before .before .before .before .before .before)
+write-same-length-2 t c = c .before .before .write .kept .1 .1 .1 .1 .1 .1 .1 .1 .1 .1 .1 .1 .0 ∙ kept-sum t (c .before .before .before .before .before .before .before)
 
 write-returns-3 : (t : ℕ) → write-lts.Need-returns-3 (claims t) (write-at t) write.Post
 write-returns-3 t c =
-    let d = c .before .before .before .before .before .before .before .before in
+    let d = c .before .before .before .before .before .before .before in
     let e = tagged t d in
     let a = start-sum t e in
-    let put = d .before .before .before .before .before .put-bit in
+    let put = d .before .before .before .before .put-bit in
     written-sum (sum-step t e) (a .args .out .now) (a .args .to) (a .pre .1 .1 .1) (put .last .0) (d .clear-bits .last .0)
     (c .before .before .write .last .1 .1 .1 .1 .1 .1 .1 .1 .1 .1 .1 .1 .0) (a .pre .1 .1 .0) (put .ensures) (d .clear-bits .ensures) (c .before .before .write .ensures)
 
@@ -247,7 +247,7 @@ abbrev Product : ℕ → Type 0
 Product t = write-lts.Else3 (claims t) (write-at t) write.Post
 
 abbrev read-product : (t : ℕ) → Product t → Read t
-read-product t c = c .before .before .before .before .before .before .before
+read-product t c = c .before .before .before
 
 abbrev start-product : (t : ℕ) → Product t → write-lts.Start (claims t) (write-at t) write.Post
 start-product t c = start t (read-product t c)
@@ -258,12 +258,12 @@ product-step : (t : ℕ) (c : Product t)
 product-step t c =
     let s = step t (read-product t c) in
     let low = s .goal-read .kind-low in
-    let some-side = c .before .before .if2 .left in
+    let some-side = c .before .if2 .left in
     let no-sum = c .if3 .left in
     let two : read-product t c .before .node-at .result .kind ≡ 2 = omega arith in
     record {
       step = s;
-      differ = c .before .before .before .before .if1 .left;
+      differ = c .before .before .if1 .left;
       goal-product = two;
       given-product = sym (step-like s some-side (start-product t c .pre .1 .1 .0)) ∙ two;
     }

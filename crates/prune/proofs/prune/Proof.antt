@@ -3,18 +3,18 @@
 use borrow.Author.Needs.{needs}
 use borrow.Author.Tests.{not-true, not-false}
 use native.Mathlib.Omega.{arith}
-use Prim.Native.Nat.{ℕ, _+_, _-_, _*_, _/_, _%_, _≤_, _<_}
-use mathlib.Core.Path.{_≡_, refl, ap, ap₂, sym, _∙_, subst}
-use mathlib.Core.Bool.{Bool, true, false}
+use Prim.Native.Nat.{ℕ, _/_, _%_, _≤_}
+use mathlib.Core.Path.{_≡_, ap, ap₂, sym, _∙_}
+use mathlib.Core.Bool.{Bool, true}
 use mathlib.Core.List.{List}
 use lib.ListN.{length, getD}
 use lib.Seq.{paste}
 use Rattle.answers.specs.Verdicts.{doneOf}
 use Rattle.meaning.specs.Types.{bits}
-use Rattle.meaning.specs.Bits.{bitsOf, room, written}
+use Rattle.meaning.specs.Bits.{bitsOf, written}
 use Rattle.meaning.specs.Tables.{Table, table}
-use Rattle.meaning.specs.Ladder.{Answer, accepted, Record, record-of, typeAt}
-use Rattle.meaning.specs.CutCalls.{isCut, cutBits, cutOf, pruneCall}
+use Rattle.meaning.specs.Ladder.{accepted, Record, record-of, typeAt}
+use Rattle.meaning.specs.CutCalls.{isCut, cutBits, cutOf}
 use Rattle.bits.proofs.OfBytes.{are-bytes}
 use Rattle.bits.proofs.Packed.{finished}
 use Rattle.prune.specs.Walks.{Walk}
@@ -22,12 +22,6 @@ use Rattle.prune.proofs.Answers.{Passes, prune-stops, prune-misshapen, 
 use Rattle.prune.proofs.Answers.{lent, lent-cut, starts, walk-lent, cut-length, column-width}
 use Rattle.prune.proofs.prune.Statement.{statement}
 use Rattle.prune.proofs.prune.Tie as tie
-use Rattle.prune.proofs.prune.Reads as reads
-use Rattle.prune.proofs.prune.Lts as lts
-use Rattle.bits.proofs.finish.Reads as finish-reads
-use Rattle.gate.proofs.record_to.Reads as record-to-reads
-use Rattle.prune.proofs.fits.Reads as fits-reads
-use Rattle.prune.proofs.write.Reads as write-reads
 
 -- The table that the columns make, and the record.
 abbrev of : tie.Start → Table

@@ -1,13 +1,10 @@
 -- `prune::under_tag` meets its contract. Assumes nothing.
-use mathlib.Core.Path.{_≡_, refl, ap, sym, _∙_, subst}
-use mathlib.Core.Bool.{Bool, true, false}
-use Prim.Native.Nat.{ℕ, _-_, _≤_}
-use Rattle.nodes.specs.declared.Node.{Node}
+use mathlib.Core.Path.{ap, sym, subst}
+use mathlib.Core.Bool.{Bool}
+use Prim.Native.Nat.{_-_, _≤_}
 use Rattle.prune.specs.Walks.{sideNode, sideWidth}
 use Rattle.prune.proofs.under_tag.Statement.{statement}
 use Rattle.prune.proofs.under_tag.Tie as tie
-use Rattle.prune.proofs.under_tag.Reads as reads
-use Rattle.prune.proofs.under_tag.Lts as lts
 
 sub-t4 : tie.Need-sub-t4
 sub-t4 c =

@@ -1,0 +1,192 @@
+-- `codec::encode::count_compact` meets its contract. The measure is the node's number. Assumes nothing.
+use mathlib.Core.Path.{_≡_, ap, subst}
+use mathlib.Core.Bool.{Bool, true}
+use Prim.Native.Nat.{ℕ, _+_, _-_, _<_, _≤_}
+use native.Mathlib.Omega.{arith}
+use borrow.Author.Needs.{needs}
+use borrow.Author.Tests.{not-true, not-false}
+use borrow.Fn.Kinds.{In}
+use borrow.Fn.PlainCycle.{Measures, is, falls, and}
+use mathlib.Core.List.{List}
+use lib.ListN.{length, drop, length-append}
+use Rattle.meaning.specs.Types.{bits}
+use Rattle.meaning.specs.Tables.{Table, table, tyAt}
+use Rattle.meaning.specs.Bits.{bitsOf}
+use Rattle.meaning.specs.Records.{compact}
+use Rattle.meaning.proofs.Records.{compact-most}
+use Rattle.bits.proofs.OfBytes.{length-bitsOf}
+use Rattle.codec.specs.Walks.{Span}
+use Rattle.codec.proofs.Nodes.{Here, Taken, Parts, taken, parts, tag-inside, payload-span, left-span, right-span}
+use Rattle.codec.proofs.Pieces.{node-run-length, node-tagged, node-both}
+use Rattle.codec.proofs.encode.count_compact.Reads as own
+use Rattle.codec.proofs.encode.count_compact.Kinds as kinds
+use Rattle.codec.proofs.encode.+count_compact.Lts-count_compact as lts
+use Rattle.bits.proofs.bit_at.Reads as bit-at-reads
+use Rattle.codec.proofs.walk.side_of.Reads as side-of-reads
+use Rattle.nodes.proofs.node_at.Reads as node-at-reads
+use Rattle.codec.proofs.encode.+count_compact.{statement}
+use Rattle.codec.proofs.encode.+count_compact.Tie.{close}
+
+abbrev μ : Measures 8 kinds.ps ℕ
+μ κs a = a .1 .1 .1 .1 .1 .1 .1 .1 .1 .1 .0
+
+-- what the function is given at the measure t, and what a call of it asks below t
+abbrev given : ℕ → In 8 kinds.ps
+given t = and 8 kinds.ps (is 8 kinds.ps μ t) own.Pre
+
+abbrev below : ℕ → In 8 kinds.ps
+below t = and 8 kinds.ps (falls 8 kinds.ps _<_ μ t) own.Pre
+
+-- what the callees ask and ensure
+abbrev called : ℕ → lts.Claims
+called t = (
+  node-at-reads.Asked,
+  node-at-reads.Learnt,
+  bit-at-reads.Asked,
+  bit-at-reads.Learnt,
+  side-of-reads.Asked,
+  side-of-reads.Learnt,
+  below t,
+  own.Post,
+)
+
+-- The node that was read, at any place after that.
+module _ (t : ℕ) (c : lts.After-node-at (called t) (given t) own.Post) where
+  abbrev start : lts.Start (called t) (given t) own.Post
+  start = c .before .before .before .before .before .before .before .before .before
+
+  abbrev of : Table
+  of =
+      let a = start .args in
+      table (a .kinds .now) (a .lefts .now) (a .rights .now) (a .widths .now) (a .sizes .now) (a .padded .now) (a .classes .now) (a .count)
+
+  here : Here of (start .args .node) (c .node-at .result)
+  here = record { walk = start .pre .1 .0; reads = c .node-at .ensures }
+
+  abbrev stream : List Bool
+  stream = bitsOf (start .args .src .now)
+
+  inside : start .args .at + bits (tyAt (of .columns) (start .args .node)) ≤ length stream
+  inside = omega (arith, start .pre .1 .1 .inside, length-bitsOf (start .args .src .now))
+
+  -- There are few compact bits.
+  few : length (compact (tyAt (of .columns) (start .args .node)) (drop (start .args .at) stream)) ≤ 524288
+  few = omega (arith, compact-most (tyAt (of .columns) (start .args .node)) (drop (start .args .at) stream), start .pre .1 .0 .narrow)
+
+node-at-requires : (t : ℕ) → lts.Need-node-at-requires (called t) (given t) own.Post
+node-at-requires t c κs =
+    let b = c .before .before .before .before .before .before .before .before in (b .pre .1 .0 .sound, b .pre .1 .0 .present)
+
+returns : (t : ℕ) → lts.Need-returns (called t) (given t) own.Post
+returns t c =
+    let n = c .before .before in
+    node-run-length (here t n) (stream t n) (start t n .args .at) (not-true (n .node-at .result .padded) (c .if1 .taken)) (inside t n)
+
+bit-at-requires : (t : ℕ) → lts.Need-bit-at-requires (called t) (given t) own.Post
+bit-at-requires t c κs = let n = c .before .before .before .before in tag-inside (here t n) (start t n .pre .1 .1) (c .if2 .taken)
+
+side-of-requires : (t : ℕ) → lts.Need-side-of-requires (called t) (given t) own.Post
+side-of-requires t c κs = search needs
+
+-- The side that the tag takes, and where its payload lies.
+module _ (t : ℕ) (c : lts.After-side-of (called t) (given t) own.Post) where
+  abbrev tagged : lts.After-node-at (called t) (given t) own.Post
+  tagged = c .before .before .before .before .before .before
+
+  sum-padded : tagged .node-at .result .padded ≡ true
+  sum-padded = not-false (tagged .node-at .result .padded) (c .before .before .before .before .if1 .left)
+
+  side : Taken (of t tagged) (start t tagged .args .node) (tagged .node-at .result) (c .side-of .result)
+  side = taken (here t tagged) sum-padded (c .before .before .if2 .taken) (c .before .bit-at .result) (c .side-of .ensures)
+
+  payload :
+      Span (start t tagged .args .src .now) (start t tagged .args .at + (tagged .node-at .result .width - c .side-of .result .width))
+      (bits (tyAt (of t tagged .columns) (c .side-of .result .node)))
+  payload = payload-span (here t tagged) (start t tagged .pre .1 .1) side
+
+sub-count-compact : (t : ℕ) → lts.Need-sub-count-compact (called t) (given t) own.Post
+sub-count-compact t c = let x = side t (c .before .before) in omega (arith, x .room)
+
+add-count-compact : (t : ℕ) → lts.Need-add-count-compact (called t) (given t) own.Post
+add-count-compact t c = let x = payload t (c .before .before) in record { fits = omega (arith, x .counted) }
+
+count-compact-requires : (t : ℕ) → lts.Need-count-compact-requires (called t) (given t) own.Post
+count-compact-requires t c κs =
+    let d = c .before .before in
+    let x = side t d in
+    (subst (λ (m : ℕ). d .side-of .result .node < m) (start t (tagged t d) .pre .0) (x .falls), (x .walk, payload t d))
+
+returns-2 : (t : ℕ) → lts.Need-returns-2 (called t) (given t) own.Post
+returns-2 t c =
+    let d = c .before .before .before in
+    let n = tagged t d in
+    let pieces =
+    node-tagged (here t n) (stream t n) (start t n .args .at) (sum-padded t d) (d .before .before .if2 .taken) (d .side-of .ensures)
+    (d .before .bit-at .ensures) in
+    omega (arith, c .count-compact .ensures, ap length pieces)
+
+add-result : (t : ℕ) → lts.Need-add-result (called t) (given t) own.Post
+add-result t c = record { fits = omega (arith, returns-2 t c, few t (tagged t (c .before .before .before))) }
+
+-- The parts of a product, and where they lie.
+module _ (t : ℕ) (c : lts.Else2 (called t) (given t) own.Post) where
+  abbrev parted : lts.After-node-at (called t) (given t) own.Post
+  parted = c .before .before .before .before
+
+  product-padded : parted .node-at .result .padded ≡ true
+  product-padded = not-false (parted .node-at .result .padded) (c .before .before .if1 .left)
+
+  halves : Parts (of t parted) (start t parted .args .node) (parted .node-at .result)
+  halves = parts (here t parted) product-padded (c .if2 .left)
+
+  second :
+      Span (start t parted .args .src .now) (start t parted .args .at + parted .node-at .result .«left_width»)
+      (bits (tyAt (of t parted .columns) (parted .node-at .result .right)))
+  second = right-span (here t parted) (start t parted .pre .1 .1) halves
+
+count-compact-requires-2 : (t : ℕ) → lts.Need-count-compact-requires-2 (called t) (given t) own.Post
+count-compact-requires-2 t c κs =
+    let n = parted t c in
+    let x = halves t c in (
+      subst (λ (m : ℕ). n .node-at .result .left < m) (start t n .pre .0) (x .left-falls),
+      (x .left-walk, left-span (here t n) (start t n .pre .1 .1) x),
+    )
+
+add-count-compact-2 : (t : ℕ) → lts.Need-add-count-compact-2 (called t) (given t) own.Post
+add-count-compact-2 t c = record { fits = omega (arith, second t (c .before) .counted) }
+
+count-compact-requires-3 : (t : ℕ) → lts.Need-count-compact-requires-3 (called t) (given t) own.Post
+count-compact-requires-3 t c κs =
+    let n = parted t (c .before) in
+    let x = halves t (c .before) in
+    (subst (λ (m : ℕ). n .node-at .result .right < m) (start t n .pre .0) (x .right-falls), (x .right-walk, second t (c .before)))
+
+returns-3 : (t : ℕ) → lts.Need-returns-3 (called t) (given t) own.Post
+returns-3 t c =
+    let d = c .before .before in
+    let n = parted t d in
+    let pieces = node-both (here t n) (stream t n) (start t n .args .at) (product-padded t d) (d .if2 .left) in
+    let joined = simp length-append at (ap length pieces) in
+    omega (arith, c .before .count-compact2 .ensures, c .count-compact3 .ensures, joined)
+
+add-result-2 : (t : ℕ) → lts.Need-add-result-2 (called t) (given t) own.Post
+add-result-2 t c = record { fits = omega (arith, returns-3 t c, few t (parted t (c .before .before))) }
+
+pub +count-compact-spec : {M : Type 1} → statement M
++count-compact-spec =
+    close μ
+    λ t. lts.spec (called t) (given t) own.Post
+    (node-at-requires t)
+    (returns t)
+    (bit-at-requires t)
+    (side-of-requires t)
+    (sub-count-compact t)
+    (add-count-compact t)
+    (count-compact-requires t)
+    (add-result t)
+    (returns-2 t)
+    (count-compact-requires-2 t)
+    (add-count-compact-2 t)
+    (count-compact-requires-3 t)
+    (add-result-2 t)
+    (returns-3 t)

@@ -1,0 +1,362 @@
+// The two codecs: compact and padded reading and writing of records, and the number of compact bits. A reader takes a stream, which is bytes, a
+// length in bits and a position, and answers the next position; a writer takes a record, and answers how many bits it has written. Both write
+// from bit 0 of the output on. No call expects a checked input. Each climbs the ladder in the order of the numbers and acts when all of it is
+// climbed, so a refusal has touched nothing.
+mod copy;
+mod decode;
+mod encode;
+mod walk;
+
+use answers::Count;
+use answers::Done;
+use answers::Refusal;
+use copy::copy_record;
+use decode::End;
+use decode::judge_compact;
+use decode::read_record;
+use encode::count_compact;
+use encode::write_record;
+use walk::width_of;
+ghost use mathlib.Core.Path.{_≡_};
+ghost use Rattle.meaning.specs.Tables.{table};
+ghost use Rattle.meaning.specs.Ladder.{record-of, stream-of};
+ghost use Rattle.meaning.specs.RecordCalls.{compactLen};
+ghost use Rattle.meaning.specs.CodecCalls.{fromCompactCall, fromCompactOut, fromPaddedCall, fromPaddedOut, toCompactCall, toCompactOut, toPaddedCall, toPaddedOut};
+ghost use Rattle.answers.specs.Verdicts.{countOf};
+
+// Reads a record from its compact bits. Its padding is zero. 1 to 5, 8, 9.
+pub fn from_compact_bits(
+    kinds: &[u8],
+    lefts: &[u16],
+    rights: &[u16],
+    widths: &[u64],
+    sizes: &[u64],
+    padded: &[u8],
+    classes: &[u16],
+    count: usize,
+    bytes: &[u8],
+    length: usize,
+    position: usize,
+    node: usize,
+    out: &mut [u8],
+) -> Count
+    ensures { λ r. ⌜ countOf r ≡ fromCompactCall (table (now (kinds .entry)) (now (lefts .entry)) (now (rights .entry)) (now (widths .entry)) (now (sizes .entry)) (now (padded .entry)) (now (classes .entry)) count) (stream-of (now (bytes .entry)) length position) node (now (out .entry)) ⌝ }
+    ensures { λ _. ⌜ now (out .exit) ≡ fromCompactOut (table (now (kinds .entry)) (now (lefts .entry)) (now (rights .entry)) (now (widths .entry)) (now (sizes .entry)) (now (padded .entry)) (now (classes .entry)) count) (stream-of (now (bytes .entry)) length position) node (now (out .entry)) ⌝ }
+{
+    let passed = gate::stream(
+        kinds,
+        lefts,
+        rights,
+        widths,
+        sizes,
+        padded,
+        classes,
+        count,
+        bytes,
+        length,
+        position,
+        node,
+    );
+    if let Done::Refused(r) = passed {
+        return Count::Refused(r);
+    }
+    let from = position / 8;
+    let src = &bytes[from..];
+    let at = position % 8;
+    let End::At(next) = judge_compact(
+        kinds,
+        lefts,
+        rights,
+        widths,
+        sizes,
+        padded,
+        classes,
+        count,
+        src,
+        at + (length - position),
+        at,
+        node,
+    ) else {
+        return Count::Refused(Refusal {
+            number: 8,
+            place: 0,
+        });
+    };
+    let width = width_of(
+        kinds,
+        lefts,
+        rights,
+        widths,
+        sizes,
+        padded,
+        classes,
+        count,
+        node,
+    );
+    if out.len() < (width + 7) / 8 {
+        return Count::Refused(Refusal {
+            number: 9,
+            place: 0,
+        });
+    }
+    read_record(
+        kinds,
+        lefts,
+        rights,
+        widths,
+        sizes,
+        padded,
+        classes,
+        count,
+        src,
+        at,
+        node,
+        out,
+    );
+    Count::Is(position + (next - at))
+}
+
+// Reads a record from its padded bits. Its padding is as it was read. 1 to 5, 8, 9.
+pub fn from_padded_bits(
+    kinds: &[u8],
+    lefts: &[u16],
+    rights: &[u16],
+    widths: &[u64],
+    sizes: &[u64],
+    padded: &[u8],
+    classes: &[u16],
+    count: usize,
+    bytes: &[u8],
+    length: usize,
+    position: usize,
+    node: usize,
+    out: &mut [u8],
+) -> Count
+    ensures { λ r. ⌜ countOf r ≡ fromPaddedCall (table (now (kinds .entry)) (now (lefts .entry)) (now (rights .entry)) (now (widths .entry)) (now (sizes .entry)) (now (padded .entry)) (now (classes .entry)) count) (stream-of (now (bytes .entry)) length position) node (now (out .entry)) ⌝ }
+    ensures { λ _. ⌜ now (out .exit) ≡ fromPaddedOut (table (now (kinds .entry)) (now (lefts .entry)) (now (rights .entry)) (now (widths .entry)) (now (sizes .entry)) (now (padded .entry)) (now (classes .entry)) count) (stream-of (now (bytes .entry)) length position) node (now (out .entry)) ⌝ }
+{
+    let passed = gate::stream(
+        kinds,
+        lefts,
+        rights,
+        widths,
+        sizes,
+        padded,
+        classes,
+        count,
+        bytes,
+        length,
+        position,
+        node,
+    );
+    if let Done::Refused(r) = passed {
+        return Count::Refused(r);
+    }
+    let from = position / 8;
+    let src = &bytes[from..];
+    let at = position % 8;
+    let width = width_of(
+        kinds,
+        lefts,
+        rights,
+        widths,
+        sizes,
+        padded,
+        classes,
+        count,
+        node,
+    );
+    if length - position < width {
+        return Count::Refused(Refusal {
+            number: 8,
+            place: 0,
+        });
+    }
+    if out.len() < (width + 7) / 8 {
+        return Count::Refused(Refusal {
+            number: 9,
+            place: 0,
+        });
+    }
+    copy_record(src, at, width, out);
+    Count::Is(position + width)
+}
+
+// Writes the compact bits of a record. 1 to 5, 9.
+pub fn to_compact_bits(
+    kinds: &[u8],
+    lefts: &[u16],
+    rights: &[u16],
+    widths: &[u64],
+    sizes: &[u64],
+    padded: &[u8],
+    classes: &[u16],
+    count: usize,
+    bytes: &[u8],
+    offset: usize,
+    node: usize,
+    out: &mut [u8],
+) -> Count
+    ensures { λ r. ⌜ countOf r ≡ toCompactCall (table (now (kinds .entry)) (now (lefts .entry)) (now (rights .entry)) (now (widths .entry)) (now (sizes .entry)) (now (padded .entry)) (now (classes .entry)) count) (record-of (now (bytes .entry)) offset node) (now (out .entry)) ⌝ }
+    ensures { λ _. ⌜ now (out .exit) ≡ toCompactOut (table (now (kinds .entry)) (now (lefts .entry)) (now (rights .entry)) (now (widths .entry)) (now (sizes .entry)) (now (padded .entry)) (now (classes .entry)) count) (record-of (now (bytes .entry)) offset node) (now (out .entry)) ⌝ }
+{
+    let passed = gate::record(
+        kinds,
+        lefts,
+        rights,
+        widths,
+        sizes,
+        padded,
+        classes,
+        count,
+        bytes,
+        offset,
+        node,
+    );
+    if let Done::Refused(r) = passed {
+        return Count::Refused(r);
+    }
+    let from = offset / 8;
+    let src = &bytes[from..];
+    let at = offset % 8;
+    let n = count_compact(
+        kinds,
+        lefts,
+        rights,
+        widths,
+        sizes,
+        padded,
+        classes,
+        count,
+        src,
+        at,
+        node,
+    );
+    if out.len() < (n + 7) / 8 {
+        return Count::Refused(Refusal {
+            number: 9,
+            place: 0,
+        });
+    }
+    write_record(
+        kinds,
+        lefts,
+        rights,
+        widths,
+        sizes,
+        padded,
+        classes,
+        count,
+        src,
+        at,
+        node,
+        out,
+    );
+    Count::Is(n)
+}
+
+// Writes the padded bits of a record, as they are. 1 to 5, 9.
+pub fn to_padded_bits(
+    kinds: &[u8],
+    lefts: &[u16],
+    rights: &[u16],
+    widths: &[u64],
+    sizes: &[u64],
+    padded: &[u8],
+    classes: &[u16],
+    count: usize,
+    bytes: &[u8],
+    offset: usize,
+    node: usize,
+    out: &mut [u8],
+) -> Count
+    ensures { λ r. ⌜ countOf r ≡ toPaddedCall (table (now (kinds .entry)) (now (lefts .entry)) (now (rights .entry)) (now (widths .entry)) (now (sizes .entry)) (now (padded .entry)) (now (classes .entry)) count) (record-of (now (bytes .entry)) offset node) (now (out .entry)) ⌝ }
+    ensures { λ _. ⌜ now (out .exit) ≡ toPaddedOut (table (now (kinds .entry)) (now (lefts .entry)) (now (rights .entry)) (now (widths .entry)) (now (sizes .entry)) (now (padded .entry)) (now (classes .entry)) count) (record-of (now (bytes .entry)) offset node) (now (out .entry)) ⌝ }
+{
+    let passed = gate::record(
+        kinds,
+        lefts,
+        rights,
+        widths,
+        sizes,
+        padded,
+        classes,
+        count,
+        bytes,
+        offset,
+        node,
+    );
+    if let Done::Refused(r) = passed {
+        return Count::Refused(r);
+    }
+    let from = offset / 8;
+    let src = &bytes[from..];
+    let at = offset % 8;
+    let width = width_of(
+        kinds,
+        lefts,
+        rights,
+        widths,
+        sizes,
+        padded,
+        classes,
+        count,
+        node,
+    );
+    if out.len() < (width + 7) / 8 {
+        return Count::Refused(Refusal {
+            number: 9,
+            place: 0,
+        });
+    }
+    copy_record(src, at, width, out);
+    Count::Is(width)
+}
+
+// How many compact bits a record has. 1 to 5.
+pub fn compact_len(
+    kinds: &[u8],
+    lefts: &[u16],
+    rights: &[u16],
+    widths: &[u64],
+    sizes: &[u64],
+    padded: &[u8],
+    classes: &[u16],
+    count: usize,
+    bytes: &[u8],
+    offset: usize,
+    node: usize,
+) -> Count
+    ensures { λ r. ⌜ countOf r ≡ compactLen (table (now (kinds .entry)) (now (lefts .entry)) (now (rights .entry)) (now (widths .entry)) (now (sizes .entry)) (now (padded .entry)) (now (classes .entry)) count) (record-of (now (bytes .entry)) offset node) ⌝ }
+{
+    let passed = gate::record(
+        kinds,
+        lefts,
+        rights,
+        widths,
+        sizes,
+        padded,
+        classes,
+        count,
+        bytes,
+        offset,
+        node,
+    );
+    if let Done::Refused(r) = passed {
+        return Count::Refused(r);
+    }
+    let from = offset / 8;
+    Count::Is(count_compact(
+        kinds,
+        lefts,
+        rights,
+        widths,
+        sizes,
+        padded,
+        classes,
+        count,
+        &bytes[from..],
+        offset % 8,
+        node,
+    ))
+}

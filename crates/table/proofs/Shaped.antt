@@ -1,0 +1,70 @@
+-- How the questions about words and buffers answer, past the table and the node.
+--
+--   own-holds own-passes        a question's one rung of its own
+--   no-word-width word-width-told no-buffer-width buffer-width-told     the widths
+--   no-word word-told no-buffer buffer-told ctx8-told                   the types
+-- Assumes nothing.
+use Prim.Native.Nat.{ℕ, _<_, _≤_}
+use mathlib.Core.Path.{_≡_, ap, sym, _∙_}
+use mathlib.Core.Bool.{Bool, true, false, not}
+use mathlib.Core.List.{[], _∷_}
+use native.Mathlib.Omega.{arith}
+use lib.Dec.{ltb}
+use lib.ListN.{getD}
+use borrow.Author.Tests.{lt-ltb, le-ltb}
+use Rattle.meaning.specs.Types.{same, bits}
+use Rattle.meaning.specs.Tables.{Table}
+use Rattle.meaning.specs.Words.{wordWidths, asWord, buffer, ctx8}
+use Rattle.meaning.specs.Ladder.{refused, accepted, rung, ladder, typeAt, ranged, shaped}
+use Rattle.meaning.specs.TypeCalls.{asWordCall, wordWidth, bufferWidth, isBuffer8, isCtx8}
+use Rattle.meaning.proofs.Ladders.{ladder-holds, ladder-fails}
+use Rattle.table.proofs.Asking.{judged, once-pass, once-answered}
+
+module _ {A : Type 0} (right : Bool) (m : ℕ) (v : A) where
+  pub own-holds : right ≡ false → refused m 0 ≡ ladder (rung (not right) m 0 ∷ []) v
+  own-holds h = sym (ladder-holds (not right) m 0 [] v (ap not h))
+
+  pub own-passes : right ≡ true → (w : A) → w ≡ v → accepted w ≡ ladder (rung (not right) m 0 ∷ []) v
+  unfolding ladder
+  own-passes h w e = ap accepted e ∙ sym (ladder-fails (not right) m 0 [] v (ap not h))
+
+module _ (n : ℕ) where
+  pub no-word-width : 32 ≤ n → refused 6 0 ≡ wordWidth n
+  no-word-width h = own-holds (ltb n 32) 6 (getD wordWidths n 0) (le-ltb n 32 h)
+
+  pub word-width-told : n < 32 → (r : ℕ) → r ≡ getD wordWidths n 0 → accepted r ≡ wordWidth n
+  word-width-told h r e = own-passes (ltb n 32) 6 (getD wordWidths n 0) (lt-ltb n 32 h) r e
+
+  pub no-buffer-width : 13 ≤ n → refused 6 0 ≡ bufferWidth n
+  no-buffer-width h = own-holds (ltb n 13) 6 (bits (buffer n)) (le-ltb n 13 h)
+
+  pub buffer-width-told : n < 13 → (r : ℕ) → r ≡ bits (buffer n) → accepted r ≡ bufferWidth n
+  buffer-width-told h r e = own-passes (ltb n 13) 6 (bits (buffer n)) (lt-ltb n 13 h) r e
+
+module _ (t : Table) (n : ℕ) (h : accepted (tt {0}) ≡ judged t (n ∷ n ∷ [])) where
+  module _ (r : ℕ) (e : r ≡ asWord (typeAt t n)) where
+    pub no-word : 32 ≤ r → refused 7 0 ≡ asWordCall t n
+    no-word l =
+        let g : 32 ≤ asWord (typeAt t n) = omega arith in
+        own-holds (ltb (asWord (typeAt t n)) 32) 7 (asWord (typeAt t n)) (le-ltb (asWord (typeAt t n)) 32 g)
+        ∙ once-pass t n (shaped (ltb (asWord (typeAt t n)) 32)) (asWord (typeAt t n)) h
+
+    pub word-told : r < 32 → accepted r ≡ asWordCall t n
+    word-told l =
+        let g : asWord (typeAt t n) < 32 = omega arith in
+        own-passes (ltb (asWord (typeAt t n)) 32) 7 (asWord (typeAt t n)) (lt-ltb (asWord (typeAt t n)) 32 g) r e
+        ∙ once-pass t n (shaped (ltb (asWord (typeAt t n)) 32)) (asWord (typeAt t n)) h
+
+  module _ (k : ℕ) where
+    pub no-buffer : 13 ≤ k → refused 6 0 ≡ isBuffer8 t n k
+    no-buffer l =
+        own-holds (ltb k 13) 6 (same (typeAt t n) (buffer k)) (le-ltb k 13 l)
+        ∙ once-pass t n (ranged (ltb k 13)) (same (typeAt t n) (buffer k)) h
+
+    pub buffer-told : k < 13 → (r : Bool) → r ≡ same (typeAt t n) (buffer k) → accepted r ≡ isBuffer8 t n k
+    buffer-told l r e =
+        own-passes (ltb k 13) 6 (same (typeAt t n) (buffer k)) (lt-ltb k 13 l) r e
+        ∙ once-pass t n (ranged (ltb k 13)) (same (typeAt t n) (buffer k)) h
+
+  pub ctx8-told : (r : Bool) → r ≡ same (typeAt t n) ctx8 → accepted r ≡ isCtx8 t n
+  ctx8-told r e = once-answered t n (same (typeAt t n) ctx8) r h e

@@ -1,0 +1,140 @@
+-- `table::tables::read_table` meets its contract: what is judged to be right is read, its nodes first and then their facts, and a refusal has
+-- written nothing. Assumes nothing.
+use borrow.Author.Needs.{needs}
+use Prim.Native.Nat.{ℕ}
+use mathlib.Core.Path.{_≡_, sym, _∙_, ap}
+use mathlib.Core.List.{List}
+use Rattle.meaning.specs.Tables.{Columns, Facts, columns, facts}
+use Rattle.meaning.specs.Ladder.{accepted}
+use Rattle.meaning.specs.TypeCalls.{readTable}
+use Rattle.answers.specs.Verdicts.{countOf}
+use Rattle.table.proofs.Readings.{readable, fillable-after, read-kept, read-written}
+use Rattle.table.proofs.tables.read_table.Statement.{statement}
+use Rattle.table.proofs.tables.read_table.Tie as tie
+
+-- The file, and the entries and the facts that the columns hold at entry.
+abbrev file : tie.Start → List ℕ
+file c = c .args .file .now
+
+abbrev entries : tie.Start → Columns
+entries c = columns (c .args .kinds .now) (c .args .lefts .now) (c .args .rights .now)
+
+abbrev told : tie.Start → Facts
+told c = facts (c .args .widths .now) (c .args .sizes .now) (c .args .padded .now) (c .args .classes .now)
+
+-- Past the first call the file can be read.
+abbrev entry : tie.After-known-told → tie.Start
+entry c = c .before .before .before .before .before .before .before .before .before .before .before .before .before .before .before .before .before .before .before
+
+abbrev counted : tie.After-known-told → ℕ
+counted c = c .before .judged .given .0 .0
+
+passed : (c : tie.After-known-told) → accepted (counted c) ≡ readTable (file (entry c)) (entries (entry c)) (told (entry c))
+passed c = sym (ap countOf (c .before .judged .given .1)) ∙ c .before .before .before .may-read .ensures
+
+may-read-requires : tie.Need-may-read-requires
+may-read-requires c κs = search needs
+
+enum-known-judged : tie.Need-enum-known-judged
+enum-known-judged c = search needs
+
+enum-told : tie.Need-enum-told
+enum-told c = search needs
+
+same-length : tie.Need-same-length
+same-length c = search needs
+
+same-length-2 : tie.Need-same-length-2
+same-length-2 c = search needs
+
+same-length-3 : tie.Need-same-length-3
+same-length-3 c = search needs
+
+same-length-4 : tie.Need-same-length-4
+same-length-4 c = search needs
+
+same-length-5 : tie.Need-same-length-5
+same-length-5 c = search needs
+
+same-length-6 : tie.Need-same-length-6
+same-length-6 c = search needs
+
+same-length-7 : tie.Need-same-length-7
+same-length-7 c = search needs
+
+returns : tie.Need-returns
+returns c =
+    let s = c .before .before .before .before .before .before .before .before .before .before .before .before .before .before .before .before .before .before in
+    let r = c .enum-told .given in
+    let h = c .before .before .may-read .ensures in
+    (h, read-kept (file s) (entries s) (told s) (r .0 .0 .number) (r .0 .0 .place) (sym (ap countOf (r .1)) ∙ h) .1)
+
+write-columns-requires : tie.Need-write-columns-requires
+write-columns-requires c κs =
+    let s = entry (c .before .before .before) in readable (file s) (entries s) (told s) (counted (c .before .before .before)) (passed (c .before .before .before))
+
+fill-requires : tie.Need-fill-requires
+fill-requires c κs =
+    let k = c .before .before .before .before .before .before .before .before .before .before .before .before .before .before .before .before .before in
+    let s = entry k in
+    let w = c .before .before .before .before .before .before .before .before .before .before .before .before .before .write-columns in
+    let d = w .last .1 in
+    fillable-after (file s) (entries s) (told s) (counted k) (passed k) (columns (d .0) (d .1 .0) (d .1 .1 .0)) (w .ensures)
+
+same-length-8 : tie.Need-same-length-8
+same-length-8 c = search needs
+
+same-length-9 : tie.Need-same-length-9
+same-length-9 c = search needs
+
+same-length-10 : tie.Need-same-length-10
+same-length-10 c = search needs
+
+same-length-11 : tie.Need-same-length-11
+same-length-11 c = search needs
+
+same-length-12 : tie.Need-same-length-12
+same-length-12 c = search needs
+
+same-length-13 : tie.Need-same-length-13
+same-length-13 c = search needs
+
+same-length-14 : tie.Need-same-length-14
+same-length-14 c = search needs
+
+returns-2 : tie.Need-returns-2
+returns-2 c =
+    let k = c .before .before .before .before .before .before .before .before .before .before .before .before .before .before .before .before .before .before .before .before .before .before .before .before .before .before in
+    let s = entry k in
+    let w = c .before .before .before .before .before .before .before .before .before .before .before .before .before .before .before .before .before .before .before .before .before .before .write-columns in
+    let v = c .before .before .before .before .before .before .before .before .fill in
+    let d = w .last .1 in
+    let g = v .last .1 .1 .1 .1 in
+    read-written (file s) (entries s) (told s) (counted k) (columns (d .0) (d .1 .0) (d .1 .1 .0))
+    (facts (g .0) (g .1 .0) (g .1 .1 .0) (g .1 .1 .1 .0)) (passed k) (w .ensures) (v .ensures)
+
+pub read-table-spec : {M : Type 1} → statement M
+read-table-spec =
+    tie.close
+    (tie.spec
+    may-read-requires
+    enum-known-judged
+    enum-told
+    same-length
+    same-length-2
+    same-length-3
+    same-length-4
+    same-length-5
+    same-length-6
+    same-length-7
+    returns
+    write-columns-requires
+    fill-requires
+    same-length-8
+    same-length-9
+    same-length-10
+    same-length-11
+    same-length-12
+    same-length-13
+    same-length-14
+    returns-2)

@@ -1,0 +1,186 @@
+// The questions about word types, buffer types and the hash state's type.
+use crate::questions::present;
+use answers::Count;
+use answers::Done;
+use answers::Flag;
+use answers::Refusal;
+ghost use mathlib.Core.Path.{_≡_};
+ghost use Rattle.meaning.specs.Tables.{table};
+ghost use Rattle.meaning.specs.TypeCalls as calls;
+ghost use Rattle.answers.specs.Verdicts.{countOf, flagOf};
+
+// The n of a word type; any other type has the wrong shape.
+pub fn as_word(
+    kinds: &[u8],
+    lefts: &[u16],
+    rights: &[u16],
+    widths: &[u64],
+    sizes: &[u64],
+    padded: &[u8],
+    classes: &[u16],
+    count: usize,
+    node: usize,
+) -> Count
+    ensures { λ r.
+        ⌜ countOf r ≡ calls.asWordCall
+        (table (now (kinds .entry)) (now (lefts .entry)) (now (rights .entry)) (now (widths .entry)) (now (sizes .entry)) (now (padded .entry))
+        (now (classes .entry)) count) node ⌝ }
+{
+    let judged = present(
+        kinds,
+        lefts,
+        rights,
+        widths,
+        sizes,
+        padded,
+        classes,
+        count,
+        node,
+        node,
+    );
+    if let Done::Refused(r) = judged {
+        return Count::Refused(r);
+    }
+    let n = shapes::word_of(
+        kinds,
+        lefts,
+        rights,
+        widths,
+        sizes,
+        padded,
+        classes,
+        count,
+        node,
+    );
+    if 32 <= n {
+        return Count::Refused(Refusal {
+            number: 7,
+            place: 0,
+        });
+    }
+    Count::Is(n)
+}
+
+// The width of word type n.
+pub fn word_width(n: usize) -> Count
+    ensures { λ r. ⌜ countOf r ≡ calls.wordWidth n ⌝ }
+{
+    if 32 <= n {
+        return Count::Refused(Refusal {
+            number: 6,
+            place: 0,
+        });
+    }
+    Count::Is(shapes::word_width(n) as usize)
+}
+
+// The width of buffer type n.
+pub fn buffer_width(n: usize) -> Count
+    ensures { λ r. ⌜ countOf r ≡ calls.bufferWidth n ⌝ }
+{
+    if 13 <= n {
+        return Count::Refused(Refusal {
+            number: 6,
+            place: 0,
+        });
+    }
+    Count::Is(shapes::buffer_width(n) as usize)
+}
+
+// The type is buffer type n.
+pub fn is_buffer8(
+    kinds: &[u8],
+    lefts: &[u16],
+    rights: &[u16],
+    widths: &[u64],
+    sizes: &[u64],
+    padded: &[u8],
+    classes: &[u16],
+    count: usize,
+    node: usize,
+    n: usize,
+) -> Flag
+    ensures { λ r.
+        ⌜ flagOf r ≡ calls.isBuffer8
+        (table (now (kinds .entry)) (now (lefts .entry)) (now (rights .entry)) (now (widths .entry)) (now (sizes .entry)) (now (padded .entry))
+        (now (classes .entry)) count) node n ⌝ }
+{
+    let judged = present(
+        kinds,
+        lefts,
+        rights,
+        widths,
+        sizes,
+        padded,
+        classes,
+        count,
+        node,
+        node,
+    );
+    if let Done::Refused(r) = judged {
+        return Flag::Refused(r);
+    }
+    if 13 <= n {
+        return Flag::Refused(Refusal {
+            number: 6,
+            place: 0,
+        });
+    }
+    Flag::Is(shapes::is_buffer(
+        kinds,
+        lefts,
+        rights,
+        widths,
+        sizes,
+        padded,
+        classes,
+        count,
+        node,
+        n,
+    ))
+}
+
+// The type is the hash state's.
+pub fn is_ctx8(
+    kinds: &[u8],
+    lefts: &[u16],
+    rights: &[u16],
+    widths: &[u64],
+    sizes: &[u64],
+    padded: &[u8],
+    classes: &[u16],
+    count: usize,
+    node: usize,
+) -> Flag
+    ensures { λ r.
+        ⌜ flagOf r ≡ calls.isCtx8
+        (table (now (kinds .entry)) (now (lefts .entry)) (now (rights .entry)) (now (widths .entry)) (now (sizes .entry)) (now (padded .entry))
+        (now (classes .entry)) count) node ⌝ }
+{
+    let judged = present(
+        kinds,
+        lefts,
+        rights,
+        widths,
+        sizes,
+        padded,
+        classes,
+        count,
+        node,
+        node,
+    );
+    if let Done::Refused(r) = judged {
+        return Flag::Refused(r);
+    }
+    Flag::Is(shapes::is_ctx8(
+        kinds,
+        lefts,
+        rights,
+        widths,
+        sizes,
+        padded,
+        classes,
+        count,
+        node,
+    ))
+}

@@ -1,0 +1,28 @@
+-- `value::making::same_type` meets its contract: equal classes are equal types. Assumes nothing.
+use borrow.Author.Needs.{needs}
+use Rattle.meaning.specs.Tables.{Table, table}
+use Rattle.value.proofs.Nodes.{class-test}
+use Rattle.value.proofs.making.same_type.Statement.{statement}
+use Rattle.value.proofs.making.same_type.Tie as tie
+
+-- The table that the columns make.
+abbrev of : tie.Start → Table
+of s =
+    table (s .args .kinds .now) (s .args .lefts .now) (s .args .rights .now) (s .args .widths .now) (s .args .sizes .now)
+    (s .args .padded .now) (s .args .classes .now) (s .args .count)
+
+node-at-requires : tie.Need-node-at-requires
+node-at-requires c κs = search needs
+
+node-at-requires-2 : tie.Need-node-at-requires-2
+node-at-requires-2 c κs = search needs
+
+returns : tie.Need-returns
+returns c =
+    let n = c .before .before in
+    let s = n .before .before .before .before .before .before .before .before .before in
+    class-test (of s) (s .args .a) (s .args .b) (n .before .node-at .result) (n .node-at2 .result) (n .before .node-at .ensures)
+    (n .node-at2 .ensures)
+
+pub same-type-spec : {M : Type 1} → statement M
+same-type-spec = tie.close (tie.spec node-at-requires node-at-requires-2 returns)

@@ -1,0 +1,82 @@
+-- `value::reading::parts` meets its contract: the place and the kind are tested one after the other. Assumes nothing.
+use mathlib.Core.Path.{_≡_, ap}
+use Prim.Native.Nat.{_+_, _≤_}
+use native.Mathlib.Omega.{arith}
+use borrow.Author.Needs.{needs}
+use Rattle.meaning.specs.Types.{bits, top, isProd}
+use Rattle.meaning.specs.Tables.{Table, table}
+use Rattle.meaning.specs.Ladder.{Record, record-of, typeOf}
+use Rattle.value.proofs.Nodes.{own-width, no-prod, ProdRead, prod-read}
+use Rattle.value.proofs.Viewed.{parts-far, parts-none, parts-seen}
+use Rattle.value.proofs.reading.parts.Statement.{statement}
+use Rattle.value.proofs.reading.parts.Tie as tie
+
+-- The table that the columns make, and the record.
+abbrev of : tie.Start → Table
+of s =
+    table (s .args .kinds .now) (s .args .lefts .now) (s .args .rights .now) (s .args .widths .now) (s .args .sizes .now)
+    (s .args .padded .now) (s .args .classes .now) (s .args .count)
+
+abbrev it : tie.Start → Record
+it s = record-of (s .args .bytes .now) (s .args .offset) (s .args .node)
+
+-- The entry of the function, from the place where the node was read.
+abbrev start : tie.After-node-at → tie.Start
+start c = c .before .before .before .before .before .before .before .before .before
+
+width : (c : tie.After-node-at) → c .node-at .result .width ≡ bits (typeOf (of (start c)) (it (start c)))
+width c =
+    let s = start c in own-width (of s) (s .args .node) (c .node-at .result) (c .node-at .ensures) (s .pre .named)
+
+node-at-requires : tie.Need-node-at-requires
+node-at-requires c κs = search needs
+
+sub-if1 : tie.Need-sub-if1
+sub-if1 c = search needs
+
+returns : tie.Need-returns
+returns c = let s = start (c .before) in parts-far (of s) (it s) (omega (arith, width (c .before)))
+
+-- A record that can be addressed.
+near : (c : tie.Else1) → it (start (c .before)) .offset + bits (typeOf (of (start (c .before))) (it (start (c .before)))) ≤ top
+near c = omega (arith, width (c .before))
+
+returns-2 : tie.Need-returns-2
+returns-2 c =
+    let n = c .before .before .before in
+    let s = start n in
+    parts-none (of s) (it s) (near (c .before .before))
+    (no-prod (of s) (s .args .node) (n .node-at .result) (n .node-at .ensures) (c .if2 .taken))
+
+-- Where the kind was tested, the record is a product.
+abbrev read : tie.Else2 → tie.After-node-at
+read c = c .before .before .before
+
+sides : (c : tie.Else2) → ProdRead (of (start (read c))) (start (read c) .args .node) (read c .node-at .result)
+sides c =
+    let n = read c in
+    let s = start n in prod-read (of s) (s .args .node) (n .node-at .result) (n .node-at .ensures) (s .pre .named) (c .if2 .left)
+
+side-in-requires : tie.Need-side-in-requires
+side-in-requires c κs = search needs
+
+add-t20 : tie.Need-add-t20
+add-t20 c = let b = c .before in omega (arith, near (b .before .before), sides b .total)
+
+side-in-requires-2 : tie.Need-side-in-requires-2
+side-in-requires-2 c κs =
+    let s = start (read (c .before)) in omega (arith, s .pre .named .here, s .pre .named .sound .rights-reach)
+
+returns-3 : tie.Need-returns-3
+returns-3 c =
+    let b = c .before .before in
+    let s = start (read b) in
+    parts-seen (of s) (it s) (near (b .before .before)) (ap isProd (sides b .whole)) (read b .node-at .result .«left_width») (c .before .side-in .result)
+    (c .side-in2 .result)
+    (sides b .left-is)
+    (c .before .side-in .ensures)
+    (c .side-in2 .ensures)
+
+pub parts-spec : {M : Type 1} → statement M
+parts-spec =
+    tie.close (tie.spec node-at-requires sub-if1 returns returns-2 side-in-requires add-t20 side-in-requires-2 returns-3)

@@ -1,0 +1,69 @@
+-- `value::views::as_product` meets its contract: rungs 1 to 5 by `gate`, the others by the inner function. Assumes nothing.
+use mathlib.Core.Path.{_≡_, sym, ap, _∙_}
+use mathlib.Core.List.{List, [], _∷_}
+use borrow.Author.Needs.{needs}
+use Rattle.meaning.specs.Tables.{Table, table}
+use Rattle.meaning.specs.Ladder.{Answer, accepted, Rung, ladder, Record, record-of}
+use Rattle.meaning.specs.RecordCalls.{handed}
+use Rattle.meaning.proofs.Ladders.{ladder-pass, ladder-stop}
+use Rattle.answers.specs.Verdicts.{doneOf}
+use Rattle.value.specs.Sides.{partsSpots, partsRungs}
+use Rattle.value.proofs.Gated.{one-held}
+use Rattle.value.proofs.views.as_product.Statement.{statement}
+use Rattle.value.proofs.views.as_product.Tie as tie
+
+-- The table that the columns make, and the record.
+abbrev of : tie.Start → Table
+of s =
+    table (s .args .kinds .now) (s .args .lefts .now) (s .args .rights .now) (s .args .widths .now) (s .args .sizes .now)
+    (s .args .padded .now) (s .args .classes .now) (s .args .count)
+
+abbrev it : tie.Start → Record
+it s = record-of (s .args .bytes .now) (s .args .offset) (s .args .node)
+
+-- The entry of the function, from the place where its first rungs have let it pass.
+abbrev start : tie.After-enum-told → tie.Start
+start c = c .before .before .before .before .before .before .before .before .before .before .before
+
+-- Those rungs, and what they answered.
+abbrev rungs : tie.Start → List Rung
+rungs s = handed (of s) (it s ∷ []) ([])
+
+passed : (c : tie.After-enum-told) → ladder (rungs (start c)) (tt {0}) ≡ accepted (tt {0})
+passed c = sym (c .before .before .«record» .ensures) ∙ ap doneOf (c .enum-told .given .1)
+
+record-requires : tie.Need-record-requires
+record-requires c κs = search needs
+
+enum-known-judged : tie.Need-enum-known-judged
+enum-known-judged c = search needs
+
+returns : tie.Need-returns
+returns c =
+    let s = c .before .before .before .before .before .before .before .before .before .before .before .before in
+    let r = c .before .judged .given in
+    sym (ladder-stop (rungs s) (partsRungs (of s) (it s)) (tt {0}) (partsSpots (of s) (it s)) (r .0 .0 .number) (r .0 .0 .place)
+    (sym (c .before .before .before .«record» .ensures) ∙ ap doneOf (r .1)))
+
+enum-told : tie.Need-enum-told
+enum-told c = search needs
+
+parts-requires : tie.Need-parts-requires
+parts-requires c κs = let s = start c in one-held (of s) (it s) (passed c)
+
+returns-2 : tie.Need-returns-2
+returns-2 c =
+    let s = start (c .before) in
+    c .parts .ensures
+    ∙ sym (ladder-pass (rungs s) (partsRungs (of s) (it s)) (tt {0}) (tt {0}) (partsSpots (of s) (it s)) (passed (c .before)))
+
+pub as-product-spec : {M : Type 1} → statement M
+as-product-spec =
+    tie.close
+    (tie.spec
+    record-requires
+    enum-known-judged
+    returns
+    enum-told
+    parts-requires
+    returns-2)

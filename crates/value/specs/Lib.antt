@@ -1,0 +1,3 @@
+-- What the contracts of `value` cite beside the definitions of `meaning`.
+pub mod Held
+pub mod Sides

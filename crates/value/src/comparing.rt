@@ -1,0 +1,171 @@
+// Equality and order of records, and how wide a record is. Equality and order read the records' own bits alone, padding too.
+// Assumes nothing of its input. Refuses with 1 to 5.
+use crate::reading::alike;
+use crate::reading::ordered;
+use answers::Compared;
+use answers::Count;
+use answers::Done;
+use answers::Flag;
+ghost use mathlib.Core.Path.{_≡_};
+ghost use Rattle.meaning.specs.Tables.{table};
+ghost use Rattle.meaning.specs.Ladder.{record-of};
+ghost use Rattle.meaning.specs.RecordCalls as calls;
+ghost use Rattle.answers.specs.Verdicts.{flagOf, orderOf, countOf};
+
+// Two records have the same type and the same bits.
+pub fn equal(
+    kinds: &[u8],
+    lefts: &[u16],
+    rights: &[u16],
+    widths: &[u64],
+    sizes: &[u64],
+    padded: &[u8],
+    classes: &[u16],
+    count: usize,
+    a_bytes: &[u8],
+    a_offset: usize,
+    a_node: usize,
+    b_bytes: &[u8],
+    b_offset: usize,
+    b_node: usize,
+) -> Flag
+    ensures { λ r. ⌜ flagOf r ≡ calls.equal (table (now (kinds .entry)) (now (lefts .entry)) (now (rights .entry)) (now (widths .entry)) (now (sizes .entry)) (now (padded .entry)) (now (classes .entry)) count) (record-of (now («a_bytes» .entry)) «a_offset» «a_node») (record-of (now («b_bytes» .entry)) «b_offset» «b_node») ⌝ }
+{
+    let judged = gate::two(
+        kinds,
+        lefts,
+        rights,
+        widths,
+        sizes,
+        padded,
+        classes,
+        count,
+        a_bytes,
+        a_offset,
+        a_node,
+        b_bytes,
+        b_offset,
+        b_node,
+    );
+    if let Done::Refused(r) = judged {
+        return Flag::Refused(r);
+    }
+    Flag::Is(alike(
+        kinds,
+        lefts,
+        rights,
+        widths,
+        sizes,
+        padded,
+        classes,
+        count,
+        a_bytes,
+        a_offset,
+        a_node,
+        b_bytes,
+        b_offset,
+        b_node,
+    ))
+}
+
+// The order of two records: the smaller class number first; within a class the first differing bit decides, 0 before 1.
+pub fn compare(
+    kinds: &[u8],
+    lefts: &[u16],
+    rights: &[u16],
+    widths: &[u64],
+    sizes: &[u64],
+    padded: &[u8],
+    classes: &[u16],
+    count: usize,
+    a_bytes: &[u8],
+    a_offset: usize,
+    a_node: usize,
+    b_bytes: &[u8],
+    b_offset: usize,
+    b_node: usize,
+) -> Compared
+    ensures { λ r. ⌜ orderOf r ≡ calls.compareCall (table (now (kinds .entry)) (now (lefts .entry)) (now (rights .entry)) (now (widths .entry)) (now (sizes .entry)) (now (padded .entry)) (now (classes .entry)) count) (record-of (now («a_bytes» .entry)) «a_offset» «a_node») (record-of (now («b_bytes» .entry)) «b_offset» «b_node») ⌝ }
+{
+    let judged = gate::two(
+        kinds,
+        lefts,
+        rights,
+        widths,
+        sizes,
+        padded,
+        classes,
+        count,
+        a_bytes,
+        a_offset,
+        a_node,
+        b_bytes,
+        b_offset,
+        b_node,
+    );
+    if let Done::Refused(r) = judged {
+        return Compared::Refused(r);
+    }
+    Compared::Is(ordered(
+        kinds,
+        lefts,
+        rights,
+        widths,
+        sizes,
+        padded,
+        classes,
+        count,
+        a_bytes,
+        a_offset,
+        a_node,
+        b_bytes,
+        b_offset,
+        b_node,
+    ))
+}
+
+// How many bits a record takes: the width of its type.
+pub fn padded_len(
+    kinds: &[u8],
+    lefts: &[u16],
+    rights: &[u16],
+    widths: &[u64],
+    sizes: &[u64],
+    padded: &[u8],
+    classes: &[u16],
+    count: usize,
+    bytes: &[u8],
+    offset: usize,
+    node: usize,
+) -> Count
+    ensures { λ r. ⌜ countOf r ≡ calls.paddedLen (table (now (kinds .entry)) (now (lefts .entry)) (now (rights .entry)) (now (widths .entry)) (now (sizes .entry)) (now (padded .entry)) (now (classes .entry)) count) (record-of (now (bytes .entry)) offset node) ⌝ }
+{
+    let judged = gate::record(
+        kinds,
+        lefts,
+        rights,
+        widths,
+        sizes,
+        padded,
+        classes,
+        count,
+        bytes,
+        offset,
+        node,
+    );
+    if let Done::Refused(r) = judged {
+        return Count::Refused(r);
+    }
+    let whole = nodes::node_at(
+        kinds,
+        lefts,
+        rights,
+        widths,
+        sizes,
+        padded,
+        classes,
+        count,
+        node,
+    );
+    Count::Is(whole.width as usize)
+}

@@ -1,0 +1,279 @@
+// Constructors: a record of a named result node, at bit 0 of the output, with zero bits after it in its last byte; later bytes stay. New
+// padding is zero, and a payload keeps its own. Each answers how many bits the record has.
+// Assumes nothing of its input. Refuses with 1 to 5, with 7 where the result is not made of the types given, and with 9 where the output is
+// too short; then no byte has changed.
+use crate::making::blank;
+use crate::making::join;
+use crate::making::wrap;
+use answers::Count;
+use answers::Done;
+use answers::Refusal;
+ghost use mathlib.Core.Path.{_≡_};
+ghost use Rattle.meaning.specs.Tables.{table};
+ghost use Rattle.meaning.specs.Ladder.{record-of};
+ghost use Rattle.meaning.specs.RecordCalls.{unitCall, unitOut, zeroCall, zeroOut, leftCall, leftOut, rightCall, rightOut, productCall, productOut};
+ghost use Rattle.answers.specs.Verdicts.{countOf};
+
+// The record of unit, which has no bits.
+pub fn unit(
+    kinds: &[u8],
+    lefts: &[u16],
+    rights: &[u16],
+    widths: &[u64],
+    sizes: &[u64],
+    padded: &[u8],
+    classes: &[u16],
+    count: usize,
+    result: usize,
+    out: &mut [u8],
+) -> Count
+    ensures { λ r. ⌜ countOf r ≡ unitCall (table (now (kinds .entry)) (now (lefts .entry)) (now (rights .entry)) (now (widths .entry)) (now (sizes .entry)) (now (padded .entry)) (now (classes .entry)) count) result (now (out .entry)) ⌝ }
+    ensures { λ _. ⌜ now (out .exit) ≡ unitOut (table (now (kinds .entry)) (now (lefts .entry)) (now (rights .entry)) (now (widths .entry)) (now (sizes .entry)) (now (padded .entry)) (now (classes .entry)) count) result (now (out .entry)) ⌝ }
+{
+    let judged = gate::result(
+        kinds,
+        lefts,
+        rights,
+        widths,
+        sizes,
+        padded,
+        classes,
+        count,
+        result,
+    );
+    if let Done::Refused(r) = judged {
+        return Count::Refused(r);
+    }
+    let whole = nodes::node_at(
+        kinds,
+        lefts,
+        rights,
+        widths,
+        sizes,
+        padded,
+        classes,
+        count,
+        result,
+    );
+    if whole.kind != 0 {
+        return Count::Refused(Refusal {
+            number: 7,
+            place: 0,
+        });
+    }
+    Count::Is(0)
+}
+
+// The record whose bits are all zero, of any node.
+pub fn zero(
+    kinds: &[u8],
+    lefts: &[u16],
+    rights: &[u16],
+    widths: &[u64],
+    sizes: &[u64],
+    padded: &[u8],
+    classes: &[u16],
+    count: usize,
+    result: usize,
+    out: &mut [u8],
+) -> Count
+    ensures { λ r. ⌜ countOf r ≡ zeroCall (table (now (kinds .entry)) (now (lefts .entry)) (now (rights .entry)) (now (widths .entry)) (now (sizes .entry)) (now (padded .entry)) (now (classes .entry)) count) result (now (out .entry)) ⌝ }
+    ensures { λ _. ⌜ now (out .exit) ≡ zeroOut (table (now (kinds .entry)) (now (lefts .entry)) (now (rights .entry)) (now (widths .entry)) (now (sizes .entry)) (now (padded .entry)) (now (classes .entry)) count) result (now (out .entry)) ⌝ }
+{
+    let judged = gate::result(
+        kinds,
+        lefts,
+        rights,
+        widths,
+        sizes,
+        padded,
+        classes,
+        count,
+        result,
+    );
+    if let Done::Refused(r) = judged {
+        return Count::Refused(r);
+    }
+    blank(
+        kinds,
+        lefts,
+        rights,
+        widths,
+        sizes,
+        padded,
+        classes,
+        count,
+        result,
+        out,
+    )
+}
+
+// The left record of a payload, of a sum whose left side is the payload's type.
+pub fn left(
+    kinds: &[u8],
+    lefts: &[u16],
+    rights: &[u16],
+    widths: &[u64],
+    sizes: &[u64],
+    padded: &[u8],
+    classes: &[u16],
+    count: usize,
+    bytes: &[u8],
+    offset: usize,
+    node: usize,
+    result: usize,
+    out: &mut [u8],
+) -> Count
+    ensures { λ r. ⌜ countOf r ≡ leftCall (table (now (kinds .entry)) (now (lefts .entry)) (now (rights .entry)) (now (widths .entry)) (now (sizes .entry)) (now (padded .entry)) (now (classes .entry)) count) (record-of (now (bytes .entry)) offset node) result (now (out .entry)) ⌝ }
+    ensures { λ _. ⌜ now (out .exit) ≡ leftOut (table (now (kinds .entry)) (now (lefts .entry)) (now (rights .entry)) (now (widths .entry)) (now (sizes .entry)) (now (padded .entry)) (now (classes .entry)) count) (record-of (now (bytes .entry)) offset node) result (now (out .entry)) ⌝ }
+{
+    let judged = gate::record_to(
+        kinds,
+        lefts,
+        rights,
+        widths,
+        sizes,
+        padded,
+        classes,
+        count,
+        bytes,
+        offset,
+        node,
+        result,
+    );
+    if let Done::Refused(r) = judged {
+        return Count::Refused(r);
+    }
+    wrap(
+        kinds,
+        lefts,
+        rights,
+        widths,
+        sizes,
+        padded,
+        classes,
+        count,
+        bytes,
+        offset,
+        node,
+        result,
+        false,
+        out,
+    )
+}
+
+// The right record of a payload, of a sum whose right side is the payload's type.
+pub fn right(
+    kinds: &[u8],
+    lefts: &[u16],
+    rights: &[u16],
+    widths: &[u64],
+    sizes: &[u64],
+    padded: &[u8],
+    classes: &[u16],
+    count: usize,
+    bytes: &[u8],
+    offset: usize,
+    node: usize,
+    result: usize,
+    out: &mut [u8],
+) -> Count
+    ensures { λ r. ⌜ countOf r ≡ rightCall (table (now (kinds .entry)) (now (lefts .entry)) (now (rights .entry)) (now (widths .entry)) (now (sizes .entry)) (now (padded .entry)) (now (classes .entry)) count) (record-of (now (bytes .entry)) offset node) result (now (out .entry)) ⌝ }
+    ensures { λ _. ⌜ now (out .exit) ≡ rightOut (table (now (kinds .entry)) (now (lefts .entry)) (now (rights .entry)) (now (widths .entry)) (now (sizes .entry)) (now (padded .entry)) (now (classes .entry)) count) (record-of (now (bytes .entry)) offset node) result (now (out .entry)) ⌝ }
+{
+    let judged = gate::record_to(
+        kinds,
+        lefts,
+        rights,
+        widths,
+        sizes,
+        padded,
+        classes,
+        count,
+        bytes,
+        offset,
+        node,
+        result,
+    );
+    if let Done::Refused(r) = judged {
+        return Count::Refused(r);
+    }
+    wrap(
+        kinds,
+        lefts,
+        rights,
+        widths,
+        sizes,
+        padded,
+        classes,
+        count,
+        bytes,
+        offset,
+        node,
+        result,
+        true,
+        out,
+    )
+}
+
+// The product of two records, of the product of their types: left, then right.
+pub fn product(
+    kinds: &[u8],
+    lefts: &[u16],
+    rights: &[u16],
+    widths: &[u64],
+    sizes: &[u64],
+    padded: &[u8],
+    classes: &[u16],
+    count: usize,
+    a_bytes: &[u8],
+    a_offset: usize,
+    a_node: usize,
+    b_bytes: &[u8],
+    b_offset: usize,
+    b_node: usize,
+    result: usize,
+    out: &mut [u8],
+) -> Count
+    ensures { λ r. ⌜ countOf r ≡ productCall (table (now (kinds .entry)) (now (lefts .entry)) (now (rights .entry)) (now (widths .entry)) (now (sizes .entry)) (now (padded .entry)) (now (classes .entry)) count) (record-of (now («a_bytes» .entry)) «a_offset» «a_node») (record-of (now («b_bytes» .entry)) «b_offset» «b_node») result (now (out .entry)) ⌝ }
+    ensures { λ _. ⌜ now (out .exit) ≡ productOut (table (now (kinds .entry)) (now (lefts .entry)) (now (rights .entry)) (now (widths .entry)) (now (sizes .entry)) (now (padded .entry)) (now (classes .entry)) count) (record-of (now («a_bytes» .entry)) «a_offset» «a_node») (record-of (now («b_bytes» .entry)) «b_offset» «b_node») result (now (out .entry)) ⌝ }
+{
+    let judged = gate::two_to(
+        kinds,
+        lefts,
+        rights,
+        widths,
+        sizes,
+        padded,
+        classes,
+        count,
+        a_bytes,
+        a_offset,
+        a_node,
+        b_bytes,
+        b_offset,
+        b_node,
+        result,
+    );
+    if let Done::Refused(r) = judged {
+        return Count::Refused(r);
+    }
+    join(
+        kinds,
+        lefts,
+        rights,
+        widths,
+        sizes,
+        padded,
+        classes,
+        count,
+        a_bytes,
+        a_offset,
+        a_node,
+        b_bytes,
+        b_offset,
+        b_node,
+        result,
+        out,
+    )
+}

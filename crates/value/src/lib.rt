@@ -1,0 +1,25 @@
+// Records: views, equality and order, and constructors, over lent bytes. A record is bytes, a bit offset and a node of the table; its bits are
+// the next width bits, from the top of each byte.
+// The calls that this file names are the crate's interface. None expects anything of its input: each runs its whole ladder of refusals in the
+// order of their numbers, then acts through one inner function that relies on what was checked. A refusal changes no byte.
+mod comparing;
+mod constructors;
+mod making;
+mod options;
+mod reading;
+mod views;
+mod writers;
+
+pub use comparing::compare;
+pub use comparing::equal;
+pub use comparing::padded_len;
+pub use constructors::left;
+pub use constructors::product;
+pub use constructors::right;
+pub use constructors::unit;
+pub use constructors::zero;
+pub use options::none;
+pub use options::some;
+pub use views::as_left;
+pub use views::as_product;
+pub use views::as_right;

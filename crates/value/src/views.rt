@@ -1,0 +1,155 @@
+// Views: the payload of a sum, the parts of a product. A view keeps the caller's bytes and moves offset and node only.
+// Assumes nothing of its input. Refuses with 1 to 5, and with 7 for another kind or the other tag.
+use crate::reading::parts;
+use crate::reading::payload;
+use answers::Done;
+use answers::Parted;
+use answers::Seen;
+ghost use mathlib.Core.Path.{_≡_};
+ghost use Rattle.meaning.specs.Tables.{table};
+ghost use Rattle.meaning.specs.Ladder.{record-of};
+ghost use Rattle.meaning.specs.RecordCalls.{asLeft, asRight, asProduct};
+ghost use Rattle.answers.specs.Verdicts.{spotOf, spotsOf};
+
+// The payload of a left record.
+pub fn as_left(
+    kinds: &[u8],
+    lefts: &[u16],
+    rights: &[u16],
+    widths: &[u64],
+    sizes: &[u64],
+    padded: &[u8],
+    classes: &[u16],
+    count: usize,
+    bytes: &[u8],
+    offset: usize,
+    node: usize,
+) -> Seen
+    ensures { λ r. ⌜ spotOf r ≡ asLeft (table (now (kinds .entry)) (now (lefts .entry)) (now (rights .entry)) (now (widths .entry)) (now (sizes .entry)) (now (padded .entry)) (now (classes .entry)) count) (record-of (now (bytes .entry)) offset node) ⌝ }
+{
+    let judged = gate::record(
+        kinds,
+        lefts,
+        rights,
+        widths,
+        sizes,
+        padded,
+        classes,
+        count,
+        bytes,
+        offset,
+        node,
+    );
+    if let Done::Refused(r) = judged {
+        return Seen::Refused(r);
+    }
+    payload(
+        kinds,
+        lefts,
+        rights,
+        widths,
+        sizes,
+        padded,
+        classes,
+        count,
+        bytes,
+        offset,
+        node,
+        false,
+    )
+}
+
+// The payload of a right record.
+pub fn as_right(
+    kinds: &[u8],
+    lefts: &[u16],
+    rights: &[u16],
+    widths: &[u64],
+    sizes: &[u64],
+    padded: &[u8],
+    classes: &[u16],
+    count: usize,
+    bytes: &[u8],
+    offset: usize,
+    node: usize,
+) -> Seen
+    ensures { λ r. ⌜ spotOf r ≡ asRight (table (now (kinds .entry)) (now (lefts .entry)) (now (rights .entry)) (now (widths .entry)) (now (sizes .entry)) (now (padded .entry)) (now (classes .entry)) count) (record-of (now (bytes .entry)) offset node) ⌝ }
+{
+    let judged = gate::record(
+        kinds,
+        lefts,
+        rights,
+        widths,
+        sizes,
+        padded,
+        classes,
+        count,
+        bytes,
+        offset,
+        node,
+    );
+    if let Done::Refused(r) = judged {
+        return Seen::Refused(r);
+    }
+    payload(
+        kinds,
+        lefts,
+        rights,
+        widths,
+        sizes,
+        padded,
+        classes,
+        count,
+        bytes,
+        offset,
+        node,
+        true,
+    )
+}
+
+// The two parts of a product.
+pub fn as_product(
+    kinds: &[u8],
+    lefts: &[u16],
+    rights: &[u16],
+    widths: &[u64],
+    sizes: &[u64],
+    padded: &[u8],
+    classes: &[u16],
+    count: usize,
+    bytes: &[u8],
+    offset: usize,
+    node: usize,
+) -> Parted
+    ensures { λ r. ⌜ spotsOf r ≡ asProduct (table (now (kinds .entry)) (now (lefts .entry)) (now (rights .entry)) (now (widths .entry)) (now (sizes .entry)) (now (padded .entry)) (now (classes .entry)) count) (record-of (now (bytes .entry)) offset node) ⌝ }
+{
+    let judged = gate::record(
+        kinds,
+        lefts,
+        rights,
+        widths,
+        sizes,
+        padded,
+        classes,
+        count,
+        bytes,
+        offset,
+        node,
+    );
+    if let Done::Refused(r) = judged {
+        return Parted::Refused(r);
+    }
+    parts(
+        kinds,
+        lefts,
+        rights,
+        widths,
+        sizes,
+        padded,
+        classes,
+        count,
+        bytes,
+        offset,
+        node,
+    )
+}

@@ -1,0 +1,111 @@
+-- Records in lent bytes and words read from a stream: how their rungs are answered, and which bits they are.
+--
+--   part-length lent-record     a part of lent bytes, and the own bits of a record as the part has them
+--   padded-early padded-whole   padded reading, by what is left of the stream
+--   rest-length rest-take       what is left of a stream
+--   read-refuses read-early read-short read-fulfils     a reader's answers, and its output
+-- Assumes nothing.
+use Prim.Native.Nat.{ℕ, _+_, _-_, _*_, _/_, _%_, _≤_, _<_}
+use mathlib.Core.Path.{_≡_, refl, sym, ap, ap₂, _∙_}
+use mathlib.Core.Bool.{Bool, true, false, cond}
+use mathlib.Core.List.{List, [], _∷_, _++_}
+use native.Mathlib.Nat.{zero-add}
+use native.Mathlib.Omega.{arith}
+use lib.Dec.{ltb, leb}
+use lib.ListN.{length, take, drop, length-take, length-drop}
+use borrow.Author.Tests.{lt-ltb, le-ltb, le-leb, lt-leb}
+use Rattle.meaning.specs.Types.{Ty, bits}
+use Rattle.meaning.specs.Tables.{Table}
+use Rattle.meaning.specs.Bits.{bitsOf, room, written}
+use Rattle.meaning.specs.Codecs.{Decoded, early, decoded, decodePadded, isEarly, recordOf, consumed}
+use Rattle.meaning.specs.Ladder.{Answer, refused, accepted, Rung, rung, ladder, kept, Record, Stream, typeOf, recordBits, restOf, roomFor}
+use Rattle.meaning.specs.CodecCalls.{reads, readOut}
+use Rattle.meaning.proofs.Ladders.{ladder-pass, ladder-stop, ladder-holds, ladder-fails, kept-refused, kept-accepted}
+use Rattle.bits.proofs.OfBytes.{tail, part-lent, length-bitsOf}
+use Rattle.bits.proofs.Runs.{sub-run, length-run}
+
+pub part-length : (k : ℕ) (s : List ℕ) → length (take (length s - k) (drop k s)) ≡ length s - k
+part-length k s = ap length (tail k s) ∙ length-drop k s
+
+-- The first w bits of a record of that width, in the bytes from the byte of its offset on.
+pub lent-record : (t : Table) (r : Record) (w : ℕ) → w ≡ bits (typeOf t r)
+    → take w (drop (r .offset % 8) (bitsOf (take (length (r .bytes) - r .offset / 8) (drop (r .offset / 8) (r .bytes))))) ≡ recordBits t r
+unfolding recordBits
+lent-record t r w e = ap₂ take e (part-lent (r .offset) (r .bytes))
+
+pub record-length : (t : Table) (r : Record) → r .offset + bits (typeOf t r) ≤ 8 * length (r .bytes) → length (recordBits t r) ≡ bits (typeOf t r)
+unfolding recordBits
+record-length t r h =
+    length-run (bitsOf (r .bytes)) (r .offset) (bits (typeOf t r)) (omega (arith, length-bitsOf (r .bytes)))
+
+pub padded-early : (t : Ty) (s : List Bool) → length s < bits t → decodePadded t s ≡ early
+unfolding decodePadded
+padded-early t s h = ap (λ (b : Bool). cond b (decoded (take (bits t) s) (bits t)) early) (lt-leb (bits t) (length s) h)
+
+pub padded-whole : (t : Ty) (s : List Bool) → bits t ≤ length s → decodePadded t s ≡ decoded (take (bits t) s) (bits t)
+unfolding decodePadded
+padded-whole t s h = ap (λ (b : Bool). cond b (decoded (take (bits t) s) (bits t)) early) (le-leb (bits t) (length s) h)
+
+pub rest-length : (s : Stream) → s .until ≤ 8 * length (s .bytes) → length (restOf s) ≡ s .until - s .position
+unfolding restOf
+rest-length s h =
+    omega (
+      arith,
+      length-drop (s .position) (take (s .until) (bitsOf (s .bytes))),
+      length-take (s .until) (bitsOf (s .bytes)),
+      length-bitsOf (s .bytes),
+    )
+
+pub rest-take : (s : Stream) (w : ℕ) → s .position + w ≤ s .until → take w (restOf s) ≡ take w (drop (s .position) (bitsOf (s .bytes)))
+unfolding restOf
+rest-take s w h =
+    sub-run (bitsOf (s .bytes)) 0 (s .until) (s .position) w h
+    ∙ ap (λ (k : ℕ). take w (drop k (bitsOf (s .bytes)))) (zero-add (s .position))
+
+module _ (rs : List Rung) (s : Stream) (d : Decoded) (out : List ℕ) where
+  -- A call that is refused leaves its output.
+  answered : (n p : ℕ) → reads rs s d out ≡ refused n p → (refused n p ≡ reads rs s d out) × (out ≡ readOut rs s d out)
+  answered n p e = (sym e, sym (kept-refused (reads rs s d out) n p out (written (recordOf d) out) e))
+
+  abbrev last-rungs : List Rung
+  last-rungs = rung (isEarly d) 8 0 ∷ roomFor (recordOf d) out
+
+  pub read-refuses : (n p : ℕ) → ladder rs (tt {0}) ≡ refused n p → (refused n p ≡ reads rs s d out) × (out ≡ readOut rs s d out)
+  read-refuses n p h = answered n p (ladder-stop rs last-rungs (tt {0}) (s .position + consumed d) n p h)
+
+  passed : ladder rs (tt {0}) ≡ accepted (tt {0}) → reads rs s d out ≡ ladder last-rungs (s .position + consumed d)
+  passed h = ladder-pass rs last-rungs (tt {0}) (tt {0}) (s .position + consumed d) h
+
+  pub read-early : ladder rs (tt {0}) ≡ accepted (tt {0}) → d ≡ early → (refused 8 0 ≡ reads rs s d out) × (out ≡ readOut rs s d out)
+  read-early h e =
+      answered 8 0 (passed h ∙ ladder-holds (isEarly d) 8 0 (roomFor (recordOf d) out) (s .position + consumed d) (ap isEarly e))
+
+  module _ (v : List Bool) (n : ℕ) (e : d ≡ decoded v n) (h : ladder rs (tt {0}) ≡ accepted (tt {0})) where
+    to-room : reads rs s d out ≡ ladder (roomFor (recordOf d) out) (s .position + consumed d)
+    to-room = passed h ∙ ladder-fails (isEarly d) 8 0 (roomFor (recordOf d) out) (s .position + consumed d) (ap isEarly e)
+
+    -- The test of the room, of the record that was read.
+    tested : ltb (length out) (room (length (recordOf d))) ≡ ltb (length out) (room (length v))
+    tested = ap (λ (z : Decoded). ltb (length out) (room (length (recordOf z)))) e
+
+    pub read-short : length out < room (length v) → (refused 9 0 ≡ reads rs s d out) × (out ≡ readOut rs s d out)
+    read-short l =
+        answered 9 0
+        (to-room
+        ∙ ladder-holds (ltb (length out) (room (length (recordOf d)))) 9 0 [] (s .position + consumed d)
+        (tested ∙ lt-ltb (length out) (room (length v)) l))
+
+    pub read-fulfils : room (length v) ≤ length out → (w : ℕ) → w ≡ s .position + n → (new : List ℕ) → new ≡ written v out
+        → (accepted w ≡ reads rs s d out) × (new ≡ readOut rs s d out)
+    unfolding ladder
+    read-fulfils l w ew new en =
+        let a : reads rs s d out ≡ accepted (s .position + consumed d) =
+            to-room
+            ∙ ladder-fails (ltb (length out) (room (length (recordOf d)))) 9 0 [] (s .position + consumed d)
+            (tested ∙ le-ltb (length out) (room (length v)) l) in
+        (
+          ap accepted (ew ∙ ap (λ (z : Decoded). s .position + consumed z) (sym e)) ∙ sym a,
+          en
+              ∙ ap (λ (z : Decoded). written (recordOf z) out) (sym e)
+              ∙ sym (kept-accepted (reads rs s d out) (s .position + consumed d) out (written (recordOf d) out) a),
+        )

@@ -1,0 +1,3 @@
+-- What the contracts of `words` cite beside the definitions of `meaning`.
+pub mod Held
+pub mod State
