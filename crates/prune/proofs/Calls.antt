@@ -11,6 +11,7 @@
 --   prune-plain                 a record with zero padding stays one
 --   prune-compact               records with the same compact bits are accepted alike, with the same compact bits
 --   prune-own-bits              answer and output depend on the record's own bits alone
+--   prune-settled               any two results that the contract allows are equal
 -- Assumes nothing.
 use mathlib.Core.Path.{_≡_, ap, ap₂, sym, _∙_, subst}
 use mathlib.Core.Bool.{Bool, true, false, not, _||_}
@@ -33,6 +34,9 @@ use Rattle.meaning.specs.RecordCalls.{handed}
 use Rattle.meaning.specs.CutCalls.{isCut, cutBits, cutOf, pruneRungs, pruneCall, pruneOut}
 use Rattle.meaning.proofs.Records.{bits-unit}
 use Rattle.meaning.proofs.Ladders.{ladder-pass, ladder-fails, ladder-clear, kept-accepted, sound-accepted}
+use Rattle.answers.specs.declared.Count.{Count}
+use Rattle.answers.specs.Verdicts.{countOf}
+use Rattle.answers.proofs.Settled.{count-settled}
 use Rattle.gate.proofs.Passed.{Allowed, Inside, ladder-parts, handed-passed}
 use Rattle.gate.proofs.Rungs.{named-pass}
 use Rattle.bits.proofs.OfBytes.{length-bitsOf}
@@ -250,3 +254,8 @@ module _ (t : Table) (r : Record) (a b : ℕ) (first second straight : List ℕ)
         ap (compact (typeAt t b)) (c .1) ∙ z .2,
         λ p. c .1 ∙ z .3 p,
       )
+
+-- The contract allows one answer and one output.
+pub prune-settled : (t : Table) (r : Record) (target : ℕ) (out : List ℕ) (x y : Count) (v w : List ℕ) → countOf x ≡ pruneCall t r target out
+    → v ≡ pruneOut t r target out → countOf y ≡ pruneCall t r target out → w ≡ pruneOut t r target out → (x ≡ y) × (v ≡ w)
+prune-settled t r target out x y v w e f g h = (count-settled x y (e ∙ sym g), f ∙ sym h)

@@ -79,6 +79,19 @@ module _ (t : Table) (n : ℕ) (r : Node) (reads : Reads t n r) (low : bits (typ
   side-falls true one = reads .right-falls (omega arith)
   side-falls false one = reads .left-falls (omega arith)
 
+  -- The widths that were read of a sum and of its side are the true ones.
+  sum-widths : (g : Bool) → r .kind ≡ 1
+      → (r .width ≡ bits (sum (typeAt t (r .left)) (typeAt t (r .right))))
+      × (sideWidth g r ≡ bits (side g (typeAt t (r .left)) (typeAt t (r .right))))
+  sum-widths g one =
+      let a = typeAt t (r .left) in
+      let b = typeAt t (r .right) in
+      let whole : bits (typeAt t n) ≡ bits (sum a b) = ap bits (sum-tree one) in
+      let fills = side-bits g a b in (
+        reads .width-is ∙ low-width (typeAt t n) low ∙ whole,
+        side-width g ∙ ap width (sym (side-tree t g r)) ∙ low-width (side g a b) (omega arith),
+      )
+
   pub under : (g : Bool) (p : Payload) → r .kind ≡ 1 → UnderTag r g p → Under t n r g p
   under g p one u =
       let a = typeAt t (r .left) in
@@ -88,10 +101,8 @@ module _ (t : Table) (n : ℕ) (r : Node) (reads : Reads t n r) (low : bits (typ
       let whole : bits (typeAt t n) ≡ bits (sum a b) = ap bits tree in
       let part : bits (side g a b) ≡ bits (typeAt t (p .node)) = ap bits s in
       let fills = side-bits g a b in
-      let w : r .width ≡ bits (typeAt t n) = reads .width-is ∙ low-width (typeAt t n) low in
-      let v : sideWidth g r ≡ width (side g a b) = side-width g ∙ ap width (sym (side-tree t g r)) in
-      let l = low-width (side g a b) (omega arith) in
-      let at-side = u .before-is in
+      let w = sum-widths g one in
+      let place = u .before-is in
       record {
         tree = tree;
         side-is = s;
@@ -108,14 +119,7 @@ module _ (t : Table) (n : ℕ) (r : Node) (reads : Reads t n r) (low : bits (typ
   -- What is taken off a sum's width to find where a payload begins.
   pub side-narrow : (g : Bool) → r .kind ≡ 1 → sideWidth g r ≤ r .width
   side-narrow g one =
-      let a = typeAt t (r .left) in
-      let b = typeAt t (r .right) in
-      let whole : bits (typeAt t n) ≡ bits (sum a b) = ap bits (sum-tree one) in
-      let fills = side-bits g a b in
-      let w : r .width ≡ bits (typeAt t n) = reads .width-is ∙ low-width (typeAt t n) low in
-      let v : sideWidth g r ≡ width (side g a b) = side-width g ∙ ap width (sym (side-tree t g r)) in
-      let l = low-width (side g a b) (omega arith) in
-      omega arith
+      let w = sum-widths g one in let fills = side-bits g (typeAt t (r .left)) (typeAt t (r .right)) in omega arith
 
   pub parts : r .kind ≡ 2 → Parts t n r
   unfolding bits

@@ -1,11 +1,15 @@
 -- One step of a walk down a sound table: its two nodes are read, and the cut goes on at their sides.
 --
+--   cuts                        whether the record that a walk was sent to can be cut to its target
+--   record-bits cut-bits        the record has as many bits as its type; an accepted cut has as many as the target
 --   Step                        a walk whose target and whose record's node were read
---   record-bits                 the record has as many bits as its type
---   cut-bits                    an accepted cut has as many bits as the target
---   step-equal step-unit step-unlike    the cut where a rule needs no further walk
---   step-sum walk-sum lies-sum  the cut of a sum, the walk to its payload, and the payload's place in the output
---   step-product walk-first walk-second lies-first lies-second    the same of the parts of a product
+--   step-equal step-unit step-unlike step-like      the cut where a rule needs no further walk
+--   SumStep step-sum accepts-sum        the cut of a sum, by the cut of its payload
+--   walk-sum place-sum falls-sum        the walk to the payload
+--   spans-sum before-sum wrapped-sum    what is written before the payload
+--   ProductStep step-product accepts-product first-decides second-decides       the cut of a product, by the cuts of its parts
+--   walk-first walk-second place-second falls-first falls-second                the walks to the parts
+--   first-product spans-product         where the parts lie in the target
 -- Assumes nothing.
 use mathlib.Core.Path.{_≡_, ap, ap₂, sym, _∙_, subst}
 use mathlib.Core.Bool.{Bool, true, false, not, _&&_, false≢true}

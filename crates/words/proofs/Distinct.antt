@@ -5,23 +5,21 @@
 --   segments-injective          the segments below k tell data of less than 2^k bytes
 --   buffer-injective            a buffer tells its data, within its limit
 -- Assumes nothing.
-use Prim.Native.Nat.{ℕ, zero, suc, _+_, _-_, _*_, _/_, _%_, _^_, _≤_, _<_}
-use mathlib.Core.Path.{_≡_, refl, sym, ap, ap₂, _∙_, subst}
+use Prim.Native.Nat.{ℕ, zero, suc, _+_, _*_, _/_, _%_, _^_, _<_}
+use mathlib.Core.Path.{_≡_, refl, sym, ap, ap₂, _∙_}
 use mathlib.Core.Bool.{Bool, true, false, cond, true≢false}
 use mathlib.Core.List.{List, [], _∷_, _++_}
-use native.Mathlib.Nat.{two-pow-succ, div-lt-iff-lt-mul, div-eq-of-lt}
-use native.Mathlib.Numerals.{add-one}
+use native.Mathlib.Nat.{two-pow-succ, div-lt-iff-lt-mul}
 use native.Mathlib.Omega.{arith}
-use lib.Dec.{eqb}
 use lib.ListN.{length, take, drop, getD, length-drop, take-append-drop}
 use lib.Pow.{pow-pos}
 use lib.Seq.{take-at, drop-at}
 use borrow.Author.Tests.{eqb-false}
 use Rattle.meaning.specs.Bits.{odd, bitsOf, zeros}
-use Rattle.meaning.specs.Words.{segmentBits, afterSegment, buffer, bufferBits}
+use Rattle.meaning.specs.Words.{segmentBits, afterSegment, bufferBits}
 use Rattle.meaning.specs.Checked.{Bytes}
 use Rattle.bits.proofs.OfBytes.{bitsOf-injective, bytes-take, bytes-drop}
-use Rattle.words.proofs.Parts.{held-within, length-segment, segments, segments-next, parts-begin}
+use Rattle.words.proofs.Parts.{length-segment, segments, segments-next, parts-begin}
 
 -- The bit of the length that segment k stands for.
 abbrev held : ℕ → List ℕ → Bool

@@ -3,34 +3,29 @@
 --   places                      an answer of `as_product`
 --   Halves join-halves          where the two words of `word_product` are seen, their types and their bits
 -- Assumes nothing.
-use Prim.Native.Nat.{ℕ, suc, _+_, _-_, _*_, _^_, _≤_, _<_}
-use mathlib.Core.Path.{_≡_, refl, sym, ap, ap₂, _∙_, subst}
-use mathlib.Core.Bool.{Bool, true, false, _&&_}
+use Prim.Native.Nat.{ℕ, suc, _+_, _*_, _≤_, _<_}
+use mathlib.Core.Path.{_≡_, sym, ap, ap₂, _∙_}
+use mathlib.Core.Bool.{true, _&&_}
 use mathlib.Core.List.{List, [], _∷_, _++_}
-use native.Mathlib.Nat.{zero-add}
 use native.Mathlib.Omega.{arith}
-use lib.Dec.{ltb, leb}
+use lib.Dec.{ltb}
 use lib.ListN.{length, take, drop, length-append}
 use lib.Seq.{take-at, drop-at}
 use borrow.Author.Tests.{ltb-true}
-use Rattle.meaning.specs.Types.{Ty, prod, same, bits, top}
+use Rattle.meaning.specs.Types.{Ty, prod, bits, top}
 use Rattle.meaning.specs.Tables.{Table, left, right}
-use Rattle.meaning.specs.Bits.{toBits, bitsOf, room}
-use Rattle.meaning.specs.Words.{word, isWord, asWord, joins, buffer, bufferBits, ctx8, HashState, ctx8Bits}
-use Rattle.meaning.specs.Ladder.{Answer, accepted, Rung, ladder, Record, record-of, typeAt, typeOf, recordBits, named, makes, made}
-use Rattle.meaning.specs.RecordCalls.{handed, asProduct, Spot, Spots, productBits}
-use Rattle.meaning.specs.WordCalls.{joinCall, joinOut, joinRungs, ctx8Call, ctx8Out, ctx8Rungs}
-use Rattle.meaning.specs.Checked.{Sound, Bytes}
+use Rattle.meaning.specs.Words.{word, isWord, asWord, joins}
+use Rattle.meaning.specs.Ladder.{accepted, Rung, ladder, Record, record-of, typeAt, typeOf, recordBits}
+use Rattle.meaning.specs.RecordCalls.{handed, asProduct, Spots, productBits}
+use Rattle.meaning.specs.WordCalls.{joinCall, joinOut, joinRungs}
+use Rattle.meaning.specs.Checked.{Sound}
 use Rattle.meaning.proofs.Tests.{and-left, and-right}
-use Rattle.meaning.proofs.Types.{same-eq}
 use Rattle.meaning.proofs.Records.{bits-prod}
-use Rattle.gate.proofs.Passed.{Allowed, handed-passed, named-passed}
-use Rattle.shapes.proofs.Words.{isWord-word, asWord-word, bits-word}
-use Rattle.shapes.proofs.Buffers.{bits-ctx8}
-use Rattle.words.proofs.Hashed.{buffer-five, length-state, state-buffer, state-count, state-midstate}
-use Rattle.words.proofs.Made.{Accepted, made-accepted, made-length, made-record, range-accepted, shape-accepted}
+use Rattle.gate.proofs.Passed.{Allowed, handed-passed}
+use Rattle.shapes.proofs.Words.{isWord-word, asWord-word}
+use Rattle.words.proofs.Made.{Accepted, made-accepted, made-length, made-record, shape-accepted}
 use Rattle.words.proofs.Streams.{record-length}
-use Rattle.words.proofs.Views.{sides-of-product, right-allowed, product-seen, left-bits, right-bits}
+use Rattle.words.proofs.Views.{sides-of-product, product-seen, left-bits, right-bits}
 
 -- The answer of `as_product`: two places.
 abbrev pub places : ℕ → ℕ → ℕ → ℕ → Spots
@@ -55,8 +50,7 @@ join-types a b c h =
     let front = and-left (small && same-word) next-word h in
     let low : asWord a < 31 = ltb-true (asWord a) 31 (and-left small same-word front) in
     let first : a ≡ word (asWord a) = asWord-word a (omega arith) in
-    let second : b ≡ word (asWord a) = isWord-word (asWord a) b (and-right small same-word front) in
-    (
+    let second : b ≡ word (asWord a) = isWord-word (asWord a) b (and-right small same-word front) in (
       first ∙ sym second,
       isWord-word (suc (asWord a)) c (and-right (small && same-word) next-word h) ∙ ap₂ prod (sym first) (sym second),
     )

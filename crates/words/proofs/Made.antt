@@ -5,17 +5,16 @@
 --   range-accepted shape-accepted   the rungs 6 and 7 that passed
 -- Assumes nothing.
 use Prim.Native.Nat.{ℕ, _≤_}
-use mathlib.Core.Path.{_≡_, refl, sym, ap, _∙_}
+use mathlib.Core.Path.{_≡_, sym, ap, _∙_}
 use mathlib.Core.Bool.{Bool, true, not}
 use mathlib.Core.List.{List, [], _++_}
-use native.Mathlib.Omega.{arith}
 use lib.Dec.{ltb}
-use lib.ListN.{length, take, drop}
+use lib.ListN.{length, take}
 use lib.Seq.{take-at}
 use borrow.Author.Tests.{ltb-false, not-false}
 use Rattle.meaning.specs.Types.{bits}
 use Rattle.meaning.specs.Tables.{Table}
-use Rattle.meaning.specs.Bits.{bitsOf, zeros, room, written}
+use Rattle.meaning.specs.Bits.{bitsOf, room, written}
 use Rattle.meaning.specs.Ladder.{Answer, refused, accepted, Rung, ladder, record-of, typeAt, recordBits, ranged, shaped, roomFor, makes, made}
 use Rattle.meaning.proofs.Ladders.{ladder-clear, kept-accepted}
 use Rattle.bits.proofs.Packed.{bitsOf-written, length-written}

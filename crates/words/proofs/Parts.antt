@@ -9,8 +9,8 @@
 --   parts-begin part-room part-next part-paste parts-end    segments written one after the other, from the first to the last
 --   paste-tagged                a tag, and a run after it
 -- Assumes nothing.
-use Prim.Native.Nat.{ℕ, zero, suc, _+_, _-_, _*_, _/_, _^_, _≤_, _<_, min}
-use mathlib.Core.Path.{_≡_, refl, sym, ap, ap₂, _∙_, subst}
+use Prim.Native.Nat.{ℕ, zero, suc, _+_, _*_, _/_, _^_, _≤_, _<_}
+use mathlib.Core.Path.{_≡_, refl, sym, ap, ap₂, _∙_}
 use mathlib.Core.Bool.{Bool, true, false, cond, false≢true}
 use mathlib.Core.List.{List, [], _∷_, _++_, append-nil}
 use native.Mathlib.Nat.{div-eq-of-lt, le-of-eq}
@@ -23,7 +23,6 @@ use lib.Seq.{paste, take-all, take-at, drop-at, drop-drop}
 use Rattle.meaning.specs.Types.{bits}
 use Rattle.meaning.specs.Bits.{odd, bitsOf, zeros}
 use Rattle.meaning.specs.Words.{segmentBits, afterSegment, buffer, bufferBits}
-use Rattle.meaning.proofs.Records.{bits-prod}
 use Rattle.bits.proofs.OfBytes.{length-bitsOf, take-bitsOf}
 use Rattle.bits.proofs.Pasted.{paste-take, paste-append, set-as-paste}
 use Rattle.shapes.proofs.Buffers.{bits-segment, bits-buffer}

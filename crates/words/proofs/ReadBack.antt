@@ -6,10 +6,10 @@
 --   number-read-back            the number of `u1`, `u2` and `u4`
 -- Assumes nothing.
 use Prim.Native.Nat.{ℕ, _+_, _-_, _*_, _^_, _≤_, _<_}
-use mathlib.Core.Path.{_≡_, refl, sym, ap, ap₂, _∙_, subst}
-use mathlib.Core.Bool.{Bool, true, false, _||_}
+use mathlib.Core.Path.{_≡_, refl, sym, ap, ap₂, _∙_}
+use mathlib.Core.Bool.{Bool, true}
 use mathlib.Core.List.{List, [], _∷_, _++_}
-use native.Mathlib.Nat.{mod-eq-of-lt, le-of-eq}
+use native.Mathlib.Nat.{mod-eq-of-lt}
 use native.Mathlib.Omega.{arith}
 use lib.Dec.{eqb, ltb}
 use lib.ListN.{length, take, drop}
@@ -18,7 +18,7 @@ use borrow.Author.Tests.{eqb-true, ltb-true, lt-ltb, le-ltb}
 use Rattle.meaning.specs.Types.{bits}
 use Rattle.meaning.specs.Tables.{Table}
 use Rattle.meaning.specs.Bits.{toBits, bitsOf, value, room, pack, written}
-use Rattle.meaning.specs.Words.{word, isWord, exponent}
+use Rattle.meaning.specs.Words.{isWord, exponent}
 use Rattle.meaning.specs.Codecs.{decoded, decodePadded}
 use Rattle.meaning.specs.Ladder.{accepted, Rung, ladder, Stream, stream-of, record-of, typeAt, recordBits, restOf, named, makes, made}
 use Rattle.meaning.specs.CodecCalls.{readRungs}
@@ -157,7 +157,7 @@ number-read-back t n x result out w h =
     let passed =
     range-accepted (named t (result ∷ [])) (ltb x (2 ^ (2 ^ n))) (isWord n (typeAt t result)) (made-accepted rs v out w h .clear) in
     let wide : bits (typeAt t result) ≡ length v =
-        ap bits (isWord-word n (typeAt t result) (passed .2)) ∙ bits-word n ∙ sym (length-toBits (2 ^ n) x) in
+    ap bits (isWord-word n (typeAt t result) (passed .2)) ∙ bits-word n ∙ sym (length-toBits (2 ^ n) x) in
     ap (value (2 ^ n)) (made-record t result rs v out w h wide)
     ∙ value-toBits (2 ^ n) x
     ∙ mod-eq-of-lt (ltb-true x (2 ^ (2 ^ n)) (passed .1))

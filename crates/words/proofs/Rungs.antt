@@ -7,14 +7,14 @@
 --   shape-wrong shape-right     7 alone
 -- Assumes nothing.
 use Prim.Native.Nat.{ℕ, _≤_, _<_}
-use mathlib.Core.Path.{_≡_, refl, sym, ap, _∙_}
+use mathlib.Core.Path.{_≡_, sym, ap, _∙_}
 use mathlib.Core.Bool.{Bool, true, false, not}
-use mathlib.Core.List.{List, [], _∷_, _++_}
+use mathlib.Core.List.{List, [], _++_}
 use lib.Dec.{ltb}
 use lib.ListN.{length}
 use borrow.Author.Tests.{lt-ltb, le-ltb}
 use Rattle.meaning.specs.Bits.{room, written}
-use Rattle.meaning.specs.Ladder.{Answer, refused, accepted, Rung, rung, ladder, kept, ranged, shaped, roomFor, makes, made}
+use Rattle.meaning.specs.Ladder.{refused, accepted, Rung, ladder, ranged, shaped, roomFor, makes, made}
 use Rattle.meaning.proofs.Ladders.{ladder-pass, ladder-stop, ladder-holds, ladder-fails, kept-refused, kept-accepted}
 
 module _ (rs : List Rung) (v : List Bool) (out : List ℕ) where
@@ -36,8 +36,8 @@ module _ (rs : List Rung) (v : List Bool) (out : List ℕ) where
   unfolding ladder
   fulfils h l w ew new en =
       let e : makes rs v out ≡ accepted (length v) =
-          ladder-pass rs (roomFor v out) (tt {0}) (tt {0}) (length v) h
-          ∙ ladder-fails (ltb (length out) (room (length v))) 9 0 [] (length v) (le-ltb (length out) (room (length v)) l) in
+      ladder-pass rs (roomFor v out) (tt {0}) (tt {0}) (length v) h
+      ∙ ladder-fails (ltb (length out) (room (length v))) 9 0 [] (length v) (le-ltb (length out) (room (length v)) l) in
       (ap accepted ew ∙ sym e, en ∙ sym (kept-accepted (makes rs v out) (length v) out (written v out) e))
 
 -- The rungs of a call that goes on with 6 and 7 after those of its gate.

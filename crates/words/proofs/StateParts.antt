@@ -3,20 +3,20 @@
 --   StateParts state-parts      the buffer, the count and the midstate of `ctx8`, seen by `as_product` of the record and of its right part
 --   state-injective             so no two hash states share a record: the bits tell the data held, the count and the midstate
 -- Assumes nothing.
-use Prim.Native.Nat.{ℕ, _+_, _*_, _^_, _≤_, _<_, min}
-use mathlib.Core.Path.{_≡_, refl, sym, ap, ap₂, _∙_, subst}
+use Prim.Native.Nat.{ℕ, _+_, _*_, _^_, _≤_, _<_}
+use mathlib.Core.Path.{_≡_, sym, ap, ap₂, _∙_}
 use mathlib.Core.Bool.{Bool, true}
 use mathlib.Core.List.{List, [], _∷_}
 use native.Mathlib.Omega.{arith}
 use lib.Dec.{leb}
 use lib.ListN.{length, take, drop, length-take}
 use lib.Seq.{drop-drop}
-use Rattle.meaning.specs.Types.{Ty, prod, same, bits, top}
+use Rattle.meaning.specs.Types.{prod, same, bits, top}
 use Rattle.meaning.specs.Tables.{Table, left, right}
 use Rattle.meaning.specs.Bits.{toBits, bitsOf}
 use Rattle.meaning.specs.Words.{word, buffer, bufferBits, ctx8, HashState, ctx8Bits}
-use Rattle.meaning.specs.Ladder.{Answer, accepted, Rung, ladder, record-of, typeAt, recordBits, named}
-use Rattle.meaning.specs.RecordCalls.{asProduct, Spots}
+use Rattle.meaning.specs.Ladder.{accepted, ladder, record-of, typeAt, recordBits, named}
+use Rattle.meaning.specs.RecordCalls.{asProduct}
 use Rattle.meaning.specs.WordCalls.{ctx8Call, ctx8Out, ctx8Rungs}
 use Rattle.meaning.specs.Checked.{Sound, Bytes}
 use Rattle.meaning.proofs.Types.{same-eq}

@@ -6,19 +6,19 @@
 --   read-refuses read-early read-short read-fulfils     a reader's answers, and its output
 -- Assumes nothing.
 use Prim.Native.Nat.{ℕ, _+_, _-_, _*_, _/_, _%_, _≤_, _<_}
-use mathlib.Core.Path.{_≡_, refl, sym, ap, ap₂, _∙_}
-use mathlib.Core.Bool.{Bool, true, false, cond}
-use mathlib.Core.List.{List, [], _∷_, _++_}
+use mathlib.Core.Path.{_≡_, sym, ap, ap₂, _∙_}
+use mathlib.Core.Bool.{Bool, cond}
+use mathlib.Core.List.{List, [], _∷_}
 use native.Mathlib.Nat.{zero-add}
 use native.Mathlib.Omega.{arith}
-use lib.Dec.{ltb, leb}
+use lib.Dec.{ltb}
 use lib.ListN.{length, take, drop, length-take, length-drop}
 use borrow.Author.Tests.{lt-ltb, le-ltb, le-leb, lt-leb}
 use Rattle.meaning.specs.Types.{Ty, bits}
 use Rattle.meaning.specs.Tables.{Table}
 use Rattle.meaning.specs.Bits.{bitsOf, room, written}
 use Rattle.meaning.specs.Codecs.{Decoded, early, decoded, decodePadded, isEarly, recordOf, consumed}
-use Rattle.meaning.specs.Ladder.{Answer, refused, accepted, Rung, rung, ladder, kept, Record, Stream, typeOf, recordBits, restOf, roomFor}
+use Rattle.meaning.specs.Ladder.{refused, accepted, Rung, rung, ladder, Record, Stream, typeOf, recordBits, restOf, roomFor}
 use Rattle.meaning.specs.CodecCalls.{reads, readOut}
 use Rattle.meaning.proofs.Ladders.{ladder-pass, ladder-stop, ladder-holds, ladder-fails, kept-refused, kept-accepted}
 use Rattle.bits.proofs.OfBytes.{tail, part-lent, length-bitsOf}
@@ -100,10 +100,9 @@ module _ (rs : List Rung) (s : Stream) (d : Decoded) (out : List ℕ) where
     unfolding ladder
     read-fulfils l w ew new en =
         let a : reads rs s d out ≡ accepted (s .position + consumed d) =
-            to-room
-            ∙ ladder-fails (ltb (length out) (room (length (recordOf d)))) 9 0 [] (s .position + consumed d)
-            (tested ∙ le-ltb (length out) (room (length v)) l) in
-        (
+        to-room
+        ∙ ladder-fails (ltb (length out) (room (length (recordOf d)))) 9 0 [] (s .position + consumed d)
+        (tested ∙ le-ltb (length out) (room (length v)) l) in (
           ap accepted (ew ∙ ap (λ (z : Decoded). s .position + consumed z) (sym e)) ∙ sym a,
           en
               ∙ ap (λ (z : Decoded). written (recordOf z) out) (sym e)

@@ -6,27 +6,26 @@
 --   product-seen                the answer of `as_product`
 --   left-bits right-bits        the own bits of the two views
 -- Assumes nothing.
-use Prim.Native.Nat.{ℕ, zero, suc, _+_, _*_, _-_, _^_, _≤_, _<_, min}
-use mathlib.Core.Path.{_≡_, refl, sym, ap, ap₂, _∙_, subst}
-use mathlib.Core.Bool.{Bool, true, false, not, _||_, true≢false}
+use Prim.Native.Nat.{ℕ, zero, suc, _+_, _*_, _-_, _≤_}
+use mathlib.Core.Path.{_≡_, refl, sym, ap, _∙_, subst}
+use mathlib.Core.Bool.{Bool, false, not, _||_, true≢false}
 use mathlib.Core.List.{List, [], _∷_, _++_}
-use native.Mathlib.Nat.{add-comm}
 use native.Mathlib.Omega.{arith}
-use lib.Dec.{ltb, leb}
+use lib.Dec.{ltb}
 use lib.ListN.{length, take, drop}
 use borrow.Author.Tests.{le-ltb, lt-leb}
-use Rattle.meaning.specs.Types.{Ty, unit, sum, prod, bits, size, top, isProd, leftSide, rightSide}
+use Rattle.meaning.specs.Types.{Ty, prod, bits, size, top, isProd, leftSide, rightSide}
 use Rattle.meaning.specs.Tables.{Table, kind, left, right, node}
 use Rattle.meaning.specs.Bits.{bitsOf}
 use Rattle.meaning.specs.Records.{firstOf, secondOf}
-use Rattle.meaning.specs.Ladder.{Answer, accepted, Rung, ladder, Record, record-of, typeAt, recordBits, named, within, shaped}
-use Rattle.meaning.specs.RecordCalls.{handed, addressed, asProduct, Spot, Spots}
+use Rattle.meaning.specs.Ladder.{accepted, Rung, ladder, Record, record-of, typeAt, recordBits, named, within, shaped}
+use Rattle.meaning.specs.RecordCalls.{addressed, asProduct, Spots}
 use Rattle.meaning.specs.Checked.{Sound}
 use Rattle.meaning.proofs.Ladders.{ladder-pass, ladder-fails, sound-accepted}
 use Rattle.meaning.proofs.Tests.{or-none}
 use Rattle.meaning.proofs.Sounds.{sound-tree, sound-left, sound-right-side}
 use Rattle.meaning.proofs.Records.{bits-prod}
-use Rattle.bits.proofs.Runs.{sub-run, take-run, drop-run}
+use Rattle.bits.proofs.Runs.{take-run, drop-run}
 use Rattle.gate.proofs.Passed.{Allowed}
 use Rattle.gate.proofs.Rungs.{named-pass}
 
@@ -89,10 +88,10 @@ module _ (t : Table) (s : Sound t) (n : ℕ) (a : Allowed t n) (x y : Ty) (e : t
     product-seen =
         let r : Record = record-of bytes o n in
         let v : Spots =
-            record {
-              first = record { offset = o; node = left (t .columns) n };
-              second = record { offset = o + bits (leftSide (typeAt t n)); node = right (t .columns) n };
-            } in
+        record {
+          first = record { offset = o; node = left (t .columns) n };
+          second = record { offset = o + bits (leftSide (typeAt t n)); node = right (t .columns) n };
+        } in
         let last : List Rung = shaped (isProd (typeAt t n)) in
         let past : Bool = ltb (8 * length bytes) (o + bits (typeAt t n)) in
         ladder-pass (named t (n ∷ [])) (within t (r ∷ []) ++ (addressed t r ++ last)) (tt {0}) (tt {0}) v (allowed-named t s n a)

@@ -1,7 +1,6 @@
 // Byte arrays: a power of two of bytes, as the word of so many bytes.
-use answers::Count;
 use crate::fixed::bytes_word;
-
+use answers::Count;
 ghost use mathlib.Core.Path.{_≡_};
 ghost use Rattle.meaning.specs.Tables.{table};
 ghost use Rattle.meaning.specs.Words.{exponent};
@@ -27,10 +26,36 @@ fn exponent_of(length: usize) -> usize
 }
 
 // A byte array.
-pub fn from_byte_array(kinds: &[u8], lefts: &[u16], rights: &[u16], widths: &[u64], sizes: &[u64], padded: &[u8], classes: &[u16], count: usize, bytes: &[u8], result: usize, out: &mut [u8]) -> Count
+pub fn from_byte_array(
+    kinds: &[u8],
+    lefts: &[u16],
+    rights: &[u16],
+    widths: &[u64],
+    sizes: &[u64],
+    padded: &[u8],
+    classes: &[u16],
+    count: usize,
+    bytes: &[u8],
+    result: usize,
+    out: &mut [u8],
+) -> Count
     ensures { λ r. ⌜ countOf r ≡ arrayCall (table (now (kinds .entry)) (now (lefts .entry)) (now (rights .entry)) (now (widths .entry)) (now (sizes .entry)) (now (padded .entry)) (now (classes .entry)) count) (now (bytes .entry)) result (now (out .entry)) ⌝ }
     ensures { λ _. ⌜ now (out .exit) ≡ arrayOut (table (now (kinds .entry)) (now (lefts .entry)) (now (rights .entry)) (now (widths .entry)) (now (sizes .entry)) (now (padded .entry)) (now (classes .entry)) count) (now (bytes .entry)) result (now (out .entry)) ⌝ }
 {
     let k = exponent_of(bytes.len());
-    bytes_word(kinds, lefts, rights, widths, sizes, padded, classes, count, 3 + k, k < NO_ARRAY, bytes, result, out)
+    bytes_word(
+        kinds,
+        lefts,
+        rights,
+        widths,
+        sizes,
+        padded,
+        classes,
+        count,
+        3 + k,
+        k < NO_ARRAY,
+        bytes,
+        result,
+        out,
+    )
 }

@@ -1,10 +1,9 @@
 // Buffers and the hash state.
+use crate::HashState;
+use crate::segments::write_buffer;
 use answers::Count;
 use answers::Done;
 use answers::Refusal;
-use crate::HashState;
-use crate::segments::write_buffer;
-
 ghost use mathlib.Core.Path.{_≡_};
 ghost use Prim.Native.Nat.{_≤_};
 ghost use lib.ListN.{length};
@@ -16,27 +15,73 @@ ghost use Rattle.answers.specs.Verdicts.{countOf};
 ghost use Rattle.words.specs.State.{stateOf};
 
 // Buffer type n that holds data: up to 2^(n + 1) − 1 bytes, for n of 0 to 12.
-pub fn buffer8_two_n_plus_one(kinds: &[u8], lefts: &[u16], rights: &[u16], widths: &[u64], sizes: &[u64], padded: &[u8], classes: &[u16], count: usize, n: usize, data: &[u8], result: usize, out: &mut [u8]) -> Count
+pub fn buffer8_two_n_plus_one(
+    kinds: &[u8],
+    lefts: &[u16],
+    rights: &[u16],
+    widths: &[u64],
+    sizes: &[u64],
+    padded: &[u8],
+    classes: &[u16],
+    count: usize,
+    n: usize,
+    data: &[u8],
+    result: usize,
+    out: &mut [u8],
+) -> Count
     ensures { λ r. ⌜ countOf r ≡ bufferCall (table (now (kinds .entry)) (now (lefts .entry)) (now (rights .entry)) (now (widths .entry)) (now (sizes .entry)) (now (padded .entry)) (now (classes .entry)) count) n (now («data» .entry)) result (now (out .entry)) ⌝ }
     ensures { λ _. ⌜ now (out .exit) ≡ bufferOut (table (now (kinds .entry)) (now (lefts .entry)) (now (rights .entry)) (now (widths .entry)) (now (sizes .entry)) (now (padded .entry)) (now (classes .entry)) count) n (now («data» .entry)) result (now (out .entry)) ⌝ }
 {
-    let judged = gate::node(kinds, lefts, rights, widths, sizes, padded, classes, count, result);
+    let judged = gate::node(
+        kinds,
+        lefts,
+        rights,
+        widths,
+        sizes,
+        padded,
+        classes,
+        count,
+        result,
+    );
     if let Done::Refused(r) = judged {
         return Count::Refused(r);
     }
     if 13 <= n {
-        return Count::Refused(Refusal { number: 6, place: 0 });
+        return Count::Refused(Refusal {
+            number: 6,
+            place: 0,
+        });
     }
     let limit = 2 * (shapes::word_width(n) as usize);
     if limit <= data.len() {
-        return Count::Refused(Refusal { number: 6, place: 0 });
+        return Count::Refused(Refusal {
+            number: 6,
+            place: 0,
+        });
     }
-    if !shapes::is_buffer(kinds, lefts, rights, widths, sizes, padded, classes, count, result, n) {
-        return Count::Refused(Refusal { number: 7, place: 0 });
+    if !shapes::is_buffer(
+        kinds,
+        lefts,
+        rights,
+        widths,
+        sizes,
+        padded,
+        classes,
+        count,
+        result,
+        n,
+    ) {
+        return Count::Refused(Refusal {
+            number: 7,
+            place: 0,
+        });
     }
     let width = shapes::buffer_width(n) as usize;
     if out.len() < (width + 7) / 8 {
-        return Count::Refused(Refusal { number: 9, place: 0 });
+        return Count::Refused(Refusal {
+            number: 9,
+            place: 0,
+        });
     }
     write_buffer(out, n, data);
     bits::finish(out, width);
@@ -59,23 +104,64 @@ fn write_state(out: &mut [u8], state: HashState)
 }
 
 // A hash state, of which up to 63 bytes are buffered.
-pub fn ctx8(kinds: &[u8], lefts: &[u16], rights: &[u16], widths: &[u64], sizes: &[u64], padded: &[u8], classes: &[u16], count: usize, state: HashState, result: usize, out: &mut [u8]) -> Count
+pub fn ctx8(
+    kinds: &[u8],
+    lefts: &[u16],
+    rights: &[u16],
+    widths: &[u64],
+    sizes: &[u64],
+    padded: &[u8],
+    classes: &[u16],
+    count: usize,
+    state: HashState,
+    result: usize,
+    out: &mut [u8],
+) -> Count
     ensures { λ r. ⌜ countOf r ≡ ctx8Call (table (now (kinds .entry)) (now (lefts .entry)) (now (rights .entry)) (now (widths .entry)) (now (sizes .entry)) (now (padded .entry)) (now (classes .entry)) count) (stateOf state) result (now (out .entry)) ⌝ }
     ensures { λ _. ⌜ now (out .exit) ≡ ctx8Out (table (now (kinds .entry)) (now (lefts .entry)) (now (rights .entry)) (now (widths .entry)) (now (sizes .entry)) (now (padded .entry)) (now (classes .entry)) count) (stateOf state) result (now (out .entry)) ⌝ }
 {
-    let judged = gate::node(kinds, lefts, rights, widths, sizes, padded, classes, count, result);
+    let judged = gate::node(
+        kinds,
+        lefts,
+        rights,
+        widths,
+        sizes,
+        padded,
+        classes,
+        count,
+        result,
+    );
     if let Done::Refused(r) = judged {
         return Count::Refused(r);
     }
     let used = state.used;
     if 63 < used {
-        return Count::Refused(Refusal { number: 6, place: 0 });
+        return Count::Refused(Refusal {
+            number: 6,
+            place: 0,
+        });
     }
-    if !shapes::is_ctx8(kinds, lefts, rights, widths, sizes, padded, classes, count, result) {
-        return Count::Refused(Refusal { number: 7, place: 0 });
+    if !shapes::is_ctx8(
+        kinds,
+        lefts,
+        rights,
+        widths,
+        sizes,
+        padded,
+        classes,
+        count,
+        result,
+    ) {
+        return Count::Refused(Refusal {
+            number: 7,
+            place: 0,
+        });
     }
     if out.len() < 104 {
-        return Count::Refused(Refusal { number: 9, place: 0 });
+        return Count::Refused(Refusal {
+            number: 9,
+            place: 0,
+        });
     }
     write_state(out, state);
     Count::Is(830)

@@ -1,11 +1,9 @@
-// The fixed words: u1, u2 and u4 from a number, u8 to u512 from big-endian bytes. Each is word type n of one of two inner functions, which
-// answer 1 to 4 for the result's node, 6 for a number or a length outside its range, 7 for a result that is another type, and 9.
+// The fixed words of bytes: u8 to u512, big-endian. Each is word type n of one inner function, which answers 1 to 4 for the result's node, 6
+// for a wrong length, 7 for a result that is another type, and 9.
+use crate::writers::write_run;
 use answers::Count;
 use answers::Done;
 use answers::Refusal;
-use crate::writers::write_number;
-use crate::writers::write_run;
-
 ghost use mathlib.Core.Path.{_≡_};
 ghost use mathlib.Core.Bool.{true};
 ghost use Prim.Native.Nat.{_*_, _^_, _<_, _≤_};
@@ -14,51 +12,71 @@ ghost use Rattle.meaning.specs.Tables.{table};
 ghost use Rattle.meaning.specs.Bits.{bitsOf};
 ghost use Rattle.meaning.specs.Words.{isWord};
 ghost use Rattle.meaning.specs.Ladder.{typeAt, makes, made};
-ghost use Rattle.meaning.specs.WordCalls.{fromRange, numberCall, numberOut, bytesCall, bytesOut};
+ghost use Rattle.meaning.specs.WordCalls.{fromRange, bytesCall, bytesOut};
 ghost use Rattle.answers.specs.Verdicts.{countOf};
 
-// A word of a number.
-fn number_word(kinds: &[u8], lefts: &[u16], rights: &[u16], widths: &[u64], sizes: &[u64], padded: &[u8], classes: &[u16], count: usize, n: usize, number: u64, result: usize, out: &mut [u8]) -> Count
-    requires { ⌜ n < 3 ⌝ }
-    ensures { λ r. ⌜ countOf r ≡ numberCall (table (now (kinds .entry)) (now (lefts .entry)) (now (rights .entry)) (now (widths .entry)) (now (sizes .entry)) (now (padded .entry)) (now (classes .entry)) count) n number result (now (out .entry)) ⌝ }
-    ensures { λ _. ⌜ now (out .exit) ≡ numberOut (table (now (kinds .entry)) (now (lefts .entry)) (now (rights .entry)) (now (widths .entry)) (now (sizes .entry)) (now (padded .entry)) (now (classes .entry)) count) n number result (now (out .entry)) ⌝ }
-{
-    let judged = gate::node(kinds, lefts, rights, widths, sizes, padded, classes, count, result);
-    if let Done::Refused(r) = judged {
-        return Count::Refused(r);
-    }
-    let width = shapes::word_width(n) as usize;
-    if number >> width != 0 {
-        return Count::Refused(Refusal { number: 6, place: 0 });
-    }
-    if !shapes::is_word(kinds, lefts, rights, widths, sizes, padded, classes, count, result, n) {
-        return Count::Refused(Refusal { number: 7, place: 0 });
-    }
-    if out.len() < (width + 7) / 8 {
-        return Count::Refused(Refusal { number: 9, place: 0 });
-    }
-    write_number(out, number, width);
-    Count::Is(width)
-}
-
 // A word of bytes that are as many as the word asks, or not: `fits` says which.
-pub(crate) fn bytes_word(kinds: &[u8], lefts: &[u16], rights: &[u16], widths: &[u64], sizes: &[u64], padded: &[u8], classes: &[u16], count: usize, n: usize, fits: bool, bytes: &[u8], result: usize, out: &mut [u8]) -> Count
+pub(crate) fn bytes_word(
+    kinds: &[u8],
+    lefts: &[u16],
+    rights: &[u16],
+    widths: &[u64],
+    sizes: &[u64],
+    padded: &[u8],
+    classes: &[u16],
+    count: usize,
+    n: usize,
+    fits: bool,
+    bytes: &[u8],
+    result: usize,
+    out: &mut [u8],
+) -> Count
     requires { ⌜ (fits ≡ true → 8 * length (now bytes) ≡ 2 ^ n) ⌝ }
     ensures { λ r. ⌜ countOf r ≡ makes (fromRange (table (now (kinds .entry)) (now (lefts .entry)) (now (rights .entry)) (now (widths .entry)) (now (sizes .entry)) (now (padded .entry)) (now (classes .entry)) count) result fits (isWord n (typeAt (table (now (kinds .entry)) (now (lefts .entry)) (now (rights .entry)) (now (widths .entry)) (now (sizes .entry)) (now (padded .entry)) (now (classes .entry)) count) result))) (bitsOf (now (bytes .entry))) (now (out .entry)) ⌝ }
     ensures { λ _. ⌜ now (out .exit) ≡ made (fromRange (table (now (kinds .entry)) (now (lefts .entry)) (now (rights .entry)) (now (widths .entry)) (now (sizes .entry)) (now (padded .entry)) (now (classes .entry)) count) result fits (isWord n (typeAt (table (now (kinds .entry)) (now (lefts .entry)) (now (rights .entry)) (now (widths .entry)) (now (sizes .entry)) (now (padded .entry)) (now (classes .entry)) count) result))) (bitsOf (now (bytes .entry))) (now (out .entry)) ⌝ }
 {
-    let judged = gate::node(kinds, lefts, rights, widths, sizes, padded, classes, count, result);
+    let judged = gate::node(
+        kinds,
+        lefts,
+        rights,
+        widths,
+        sizes,
+        padded,
+        classes,
+        count,
+        result,
+    );
     if let Done::Refused(r) = judged {
         return Count::Refused(r);
     }
     if !fits {
-        return Count::Refused(Refusal { number: 6, place: 0 });
+        return Count::Refused(Refusal {
+            number: 6,
+            place: 0,
+        });
     }
-    if !shapes::is_word(kinds, lefts, rights, widths, sizes, padded, classes, count, result, n) {
-        return Count::Refused(Refusal { number: 7, place: 0 });
+    if !shapes::is_word(
+        kinds,
+        lefts,
+        rights,
+        widths,
+        sizes,
+        padded,
+        classes,
+        count,
+        result,
+        n,
+    ) {
+        return Count::Refused(Refusal {
+            number: 7,
+            place: 0,
+        });
     }
     if out.len() < bytes.len() {
-        return Count::Refused(Refusal { number: 9, place: 0 });
+        return Count::Refused(Refusal {
+            number: 9,
+            place: 0,
+        });
     }
     let width = 8 * bytes.len();
     write_run(out, bytes, 0, width);
@@ -66,92 +84,270 @@ pub(crate) fn bytes_word(kinds: &[u8], lefts: &[u16], rights: &[u16], widths: &[
 }
 
 // A word of 2^(n − 3) bytes.
-fn fixed_word(kinds: &[u8], lefts: &[u16], rights: &[u16], widths: &[u64], sizes: &[u64], padded: &[u8], classes: &[u16], count: usize, n: usize, bytes: &[u8], result: usize, out: &mut [u8]) -> Count
+fn fixed_word(
+    kinds: &[u8],
+    lefts: &[u16],
+    rights: &[u16],
+    widths: &[u64],
+    sizes: &[u64],
+    padded: &[u8],
+    classes: &[u16],
+    count: usize,
+    n: usize,
+    bytes: &[u8],
+    result: usize,
+    out: &mut [u8],
+) -> Count
     requires { ⌜ 3 ≤ n ⌝ }
     requires { ⌜ n < 32 ⌝ }
     ensures { λ r. ⌜ countOf r ≡ bytesCall (table (now (kinds .entry)) (now (lefts .entry)) (now (rights .entry)) (now (widths .entry)) (now (sizes .entry)) (now (padded .entry)) (now (classes .entry)) count) n (now (bytes .entry)) result (now (out .entry)) ⌝ }
     ensures { λ _. ⌜ now (out .exit) ≡ bytesOut (table (now (kinds .entry)) (now (lefts .entry)) (now (rights .entry)) (now (widths .entry)) (now (sizes .entry)) (now (padded .entry)) (now (classes .entry)) count) n (now (bytes .entry)) result (now (out .entry)) ⌝ }
 {
     let asked = shapes::word_width(n - 3) as usize;
-    bytes_word(kinds, lefts, rights, widths, sizes, padded, classes, count, n, bytes.len() == asked, bytes, result, out)
-}
-
-// One bit: a number of 0 to 1.
-pub fn u1(kinds: &[u8], lefts: &[u16], rights: &[u16], widths: &[u64], sizes: &[u64], padded: &[u8], classes: &[u16], count: usize, number: u64, result: usize, out: &mut [u8]) -> Count
-    ensures { λ r. ⌜ countOf r ≡ numberCall (table (now (kinds .entry)) (now (lefts .entry)) (now (rights .entry)) (now (widths .entry)) (now (sizes .entry)) (now (padded .entry)) (now (classes .entry)) count) 0 number result (now (out .entry)) ⌝ }
-    ensures { λ _. ⌜ now (out .exit) ≡ numberOut (table (now (kinds .entry)) (now (lefts .entry)) (now (rights .entry)) (now (widths .entry)) (now (sizes .entry)) (now (padded .entry)) (now (classes .entry)) count) 0 number result (now (out .entry)) ⌝ }
-{
-    number_word(kinds, lefts, rights, widths, sizes, padded, classes, count, 0, number, result, out)
-}
-
-// Two bits: a number of 0 to 3.
-pub fn u2(kinds: &[u8], lefts: &[u16], rights: &[u16], widths: &[u64], sizes: &[u64], padded: &[u8], classes: &[u16], count: usize, number: u64, result: usize, out: &mut [u8]) -> Count
-    ensures { λ r. ⌜ countOf r ≡ numberCall (table (now (kinds .entry)) (now (lefts .entry)) (now (rights .entry)) (now (widths .entry)) (now (sizes .entry)) (now (padded .entry)) (now (classes .entry)) count) 1 number result (now (out .entry)) ⌝ }
-    ensures { λ _. ⌜ now (out .exit) ≡ numberOut (table (now (kinds .entry)) (now (lefts .entry)) (now (rights .entry)) (now (widths .entry)) (now (sizes .entry)) (now (padded .entry)) (now (classes .entry)) count) 1 number result (now (out .entry)) ⌝ }
-{
-    number_word(kinds, lefts, rights, widths, sizes, padded, classes, count, 1, number, result, out)
-}
-
-// Four bits: a number of 0 to 15.
-pub fn u4(kinds: &[u8], lefts: &[u16], rights: &[u16], widths: &[u64], sizes: &[u64], padded: &[u8], classes: &[u16], count: usize, number: u64, result: usize, out: &mut [u8]) -> Count
-    ensures { λ r. ⌜ countOf r ≡ numberCall (table (now (kinds .entry)) (now (lefts .entry)) (now (rights .entry)) (now (widths .entry)) (now (sizes .entry)) (now (padded .entry)) (now (classes .entry)) count) 2 number result (now (out .entry)) ⌝ }
-    ensures { λ _. ⌜ now (out .exit) ≡ numberOut (table (now (kinds .entry)) (now (lefts .entry)) (now (rights .entry)) (now (widths .entry)) (now (sizes .entry)) (now (padded .entry)) (now (classes .entry)) count) 2 number result (now (out .entry)) ⌝ }
-{
-    number_word(kinds, lefts, rights, widths, sizes, padded, classes, count, 2, number, result, out)
+    bytes_word(
+        kinds,
+        lefts,
+        rights,
+        widths,
+        sizes,
+        padded,
+        classes,
+        count,
+        n,
+        bytes.len() == asked,
+        bytes,
+        result,
+        out,
+    )
 }
 
 // One byte.
-pub fn u8(kinds: &[u8], lefts: &[u16], rights: &[u16], widths: &[u64], sizes: &[u64], padded: &[u8], classes: &[u16], count: usize, bytes: &[u8], result: usize, out: &mut [u8]) -> Count
+pub fn u8(
+    kinds: &[u8],
+    lefts: &[u16],
+    rights: &[u16],
+    widths: &[u64],
+    sizes: &[u64],
+    padded: &[u8],
+    classes: &[u16],
+    count: usize,
+    bytes: &[u8],
+    result: usize,
+    out: &mut [u8],
+) -> Count
     ensures { λ r. ⌜ countOf r ≡ bytesCall (table (now (kinds .entry)) (now (lefts .entry)) (now (rights .entry)) (now (widths .entry)) (now (sizes .entry)) (now (padded .entry)) (now (classes .entry)) count) 3 (now (bytes .entry)) result (now (out .entry)) ⌝ }
     ensures { λ _. ⌜ now (out .exit) ≡ bytesOut (table (now (kinds .entry)) (now (lefts .entry)) (now (rights .entry)) (now (widths .entry)) (now (sizes .entry)) (now (padded .entry)) (now (classes .entry)) count) 3 (now (bytes .entry)) result (now (out .entry)) ⌝ }
 {
-    fixed_word(kinds, lefts, rights, widths, sizes, padded, classes, count, 3, bytes, result, out)
+    fixed_word(
+        kinds,
+        lefts,
+        rights,
+        widths,
+        sizes,
+        padded,
+        classes,
+        count,
+        3,
+        bytes,
+        result,
+        out,
+    )
 }
 
 // Two bytes.
-pub fn u16(kinds: &[u8], lefts: &[u16], rights: &[u16], widths: &[u64], sizes: &[u64], padded: &[u8], classes: &[u16], count: usize, bytes: &[u8], result: usize, out: &mut [u8]) -> Count
+pub fn u16(
+    kinds: &[u8],
+    lefts: &[u16],
+    rights: &[u16],
+    widths: &[u64],
+    sizes: &[u64],
+    padded: &[u8],
+    classes: &[u16],
+    count: usize,
+    bytes: &[u8],
+    result: usize,
+    out: &mut [u8],
+) -> Count
     ensures { λ r. ⌜ countOf r ≡ bytesCall (table (now (kinds .entry)) (now (lefts .entry)) (now (rights .entry)) (now (widths .entry)) (now (sizes .entry)) (now (padded .entry)) (now (classes .entry)) count) 4 (now (bytes .entry)) result (now (out .entry)) ⌝ }
     ensures { λ _. ⌜ now (out .exit) ≡ bytesOut (table (now (kinds .entry)) (now (lefts .entry)) (now (rights .entry)) (now (widths .entry)) (now (sizes .entry)) (now (padded .entry)) (now (classes .entry)) count) 4 (now (bytes .entry)) result (now (out .entry)) ⌝ }
 {
-    fixed_word(kinds, lefts, rights, widths, sizes, padded, classes, count, 4, bytes, result, out)
+    fixed_word(
+        kinds,
+        lefts,
+        rights,
+        widths,
+        sizes,
+        padded,
+        classes,
+        count,
+        4,
+        bytes,
+        result,
+        out,
+    )
 }
 
 // Four bytes.
-pub fn u32(kinds: &[u8], lefts: &[u16], rights: &[u16], widths: &[u64], sizes: &[u64], padded: &[u8], classes: &[u16], count: usize, bytes: &[u8], result: usize, out: &mut [u8]) -> Count
+pub fn u32(
+    kinds: &[u8],
+    lefts: &[u16],
+    rights: &[u16],
+    widths: &[u64],
+    sizes: &[u64],
+    padded: &[u8],
+    classes: &[u16],
+    count: usize,
+    bytes: &[u8],
+    result: usize,
+    out: &mut [u8],
+) -> Count
     ensures { λ r. ⌜ countOf r ≡ bytesCall (table (now (kinds .entry)) (now (lefts .entry)) (now (rights .entry)) (now (widths .entry)) (now (sizes .entry)) (now (padded .entry)) (now (classes .entry)) count) 5 (now (bytes .entry)) result (now (out .entry)) ⌝ }
     ensures { λ _. ⌜ now (out .exit) ≡ bytesOut (table (now (kinds .entry)) (now (lefts .entry)) (now (rights .entry)) (now (widths .entry)) (now (sizes .entry)) (now (padded .entry)) (now (classes .entry)) count) 5 (now (bytes .entry)) result (now (out .entry)) ⌝ }
 {
-    fixed_word(kinds, lefts, rights, widths, sizes, padded, classes, count, 5, bytes, result, out)
+    fixed_word(
+        kinds,
+        lefts,
+        rights,
+        widths,
+        sizes,
+        padded,
+        classes,
+        count,
+        5,
+        bytes,
+        result,
+        out,
+    )
 }
 
 // Eight bytes.
-pub fn u64(kinds: &[u8], lefts: &[u16], rights: &[u16], widths: &[u64], sizes: &[u64], padded: &[u8], classes: &[u16], count: usize, bytes: &[u8], result: usize, out: &mut [u8]) -> Count
+pub fn u64(
+    kinds: &[u8],
+    lefts: &[u16],
+    rights: &[u16],
+    widths: &[u64],
+    sizes: &[u64],
+    padded: &[u8],
+    classes: &[u16],
+    count: usize,
+    bytes: &[u8],
+    result: usize,
+    out: &mut [u8],
+) -> Count
     ensures { λ r. ⌜ countOf r ≡ bytesCall (table (now (kinds .entry)) (now (lefts .entry)) (now (rights .entry)) (now (widths .entry)) (now (sizes .entry)) (now (padded .entry)) (now (classes .entry)) count) 6 (now (bytes .entry)) result (now (out .entry)) ⌝ }
     ensures { λ _. ⌜ now (out .exit) ≡ bytesOut (table (now (kinds .entry)) (now (lefts .entry)) (now (rights .entry)) (now (widths .entry)) (now (sizes .entry)) (now (padded .entry)) (now (classes .entry)) count) 6 (now (bytes .entry)) result (now (out .entry)) ⌝ }
 {
-    fixed_word(kinds, lefts, rights, widths, sizes, padded, classes, count, 6, bytes, result, out)
+    fixed_word(
+        kinds,
+        lefts,
+        rights,
+        widths,
+        sizes,
+        padded,
+        classes,
+        count,
+        6,
+        bytes,
+        result,
+        out,
+    )
 }
 
 // Sixteen bytes.
-pub fn u128(kinds: &[u8], lefts: &[u16], rights: &[u16], widths: &[u64], sizes: &[u64], padded: &[u8], classes: &[u16], count: usize, bytes: &[u8], result: usize, out: &mut [u8]) -> Count
+pub fn u128(
+    kinds: &[u8],
+    lefts: &[u16],
+    rights: &[u16],
+    widths: &[u64],
+    sizes: &[u64],
+    padded: &[u8],
+    classes: &[u16],
+    count: usize,
+    bytes: &[u8],
+    result: usize,
+    out: &mut [u8],
+) -> Count
     ensures { λ r. ⌜ countOf r ≡ bytesCall (table (now (kinds .entry)) (now (lefts .entry)) (now (rights .entry)) (now (widths .entry)) (now (sizes .entry)) (now (padded .entry)) (now (classes .entry)) count) 7 (now (bytes .entry)) result (now (out .entry)) ⌝ }
     ensures { λ _. ⌜ now (out .exit) ≡ bytesOut (table (now (kinds .entry)) (now (lefts .entry)) (now (rights .entry)) (now (widths .entry)) (now (sizes .entry)) (now (padded .entry)) (now (classes .entry)) count) 7 (now (bytes .entry)) result (now (out .entry)) ⌝ }
 {
-    fixed_word(kinds, lefts, rights, widths, sizes, padded, classes, count, 7, bytes, result, out)
+    fixed_word(
+        kinds,
+        lefts,
+        rights,
+        widths,
+        sizes,
+        padded,
+        classes,
+        count,
+        7,
+        bytes,
+        result,
+        out,
+    )
 }
 
 // Thirty-two bytes.
-pub fn u256(kinds: &[u8], lefts: &[u16], rights: &[u16], widths: &[u64], sizes: &[u64], padded: &[u8], classes: &[u16], count: usize, bytes: &[u8], result: usize, out: &mut [u8]) -> Count
+pub fn u256(
+    kinds: &[u8],
+    lefts: &[u16],
+    rights: &[u16],
+    widths: &[u64],
+    sizes: &[u64],
+    padded: &[u8],
+    classes: &[u16],
+    count: usize,
+    bytes: &[u8],
+    result: usize,
+    out: &mut [u8],
+) -> Count
     ensures { λ r. ⌜ countOf r ≡ bytesCall (table (now (kinds .entry)) (now (lefts .entry)) (now (rights .entry)) (now (widths .entry)) (now (sizes .entry)) (now (padded .entry)) (now (classes .entry)) count) 8 (now (bytes .entry)) result (now (out .entry)) ⌝ }
     ensures { λ _. ⌜ now (out .exit) ≡ bytesOut (table (now (kinds .entry)) (now (lefts .entry)) (now (rights .entry)) (now (widths .entry)) (now (sizes .entry)) (now (padded .entry)) (now (classes .entry)) count) 8 (now (bytes .entry)) result (now (out .entry)) ⌝ }
 {
-    fixed_word(kinds, lefts, rights, widths, sizes, padded, classes, count, 8, bytes, result, out)
+    fixed_word(
+        kinds,
+        lefts,
+        rights,
+        widths,
+        sizes,
+        padded,
+        classes,
+        count,
+        8,
+        bytes,
+        result,
+        out,
+    )
 }
 
 // Sixty-four bytes.
-pub fn u512(kinds: &[u8], lefts: &[u16], rights: &[u16], widths: &[u64], sizes: &[u64], padded: &[u8], classes: &[u16], count: usize, bytes: &[u8], result: usize, out: &mut [u8]) -> Count
+pub fn u512(
+    kinds: &[u8],
+    lefts: &[u16],
+    rights: &[u16],
+    widths: &[u64],
+    sizes: &[u64],
+    padded: &[u8],
+    classes: &[u16],
+    count: usize,
+    bytes: &[u8],
+    result: usize,
+    out: &mut [u8],
+) -> Count
     ensures { λ r. ⌜ countOf r ≡ bytesCall (table (now (kinds .entry)) (now (lefts .entry)) (now (rights .entry)) (now (widths .entry)) (now (sizes .entry)) (now (padded .entry)) (now (classes .entry)) count) 9 (now (bytes .entry)) result (now (out .entry)) ⌝ }
     ensures { λ _. ⌜ now (out .exit) ≡ bytesOut (table (now (kinds .entry)) (now (lefts .entry)) (now (rights .entry)) (now (widths .entry)) (now (sizes .entry)) (now (padded .entry)) (now (classes .entry)) count) 9 (now (bytes .entry)) result (now (out .entry)) ⌝ }
 {
-    fixed_word(kinds, lefts, rights, widths, sizes, padded, classes, count, 9, bytes, result, out)
+    fixed_word(
+        kinds,
+        lefts,
+        rights,
+        widths,
+        sizes,
+        padded,
+        classes,
+        count,
+        9,
+        bytes,
+        result,
+        out,
+    )
 }

@@ -1,10 +1,9 @@
 // Words from records and streams: two words of one type as the next word, and a word read from a stream.
+use crate::writers::write_pair;
+use crate::writers::write_run;
 use answers::Count;
 use answers::Done;
 use answers::Refusal;
-use crate::writers::write_pair;
-use crate::writers::write_run;
-
 ghost use mathlib.Core.Path.{_≡_};
 ghost use Rattle.meaning.specs.Tables.{table};
 ghost use Rattle.meaning.specs.Ladder.{record-of, stream-of};
@@ -12,55 +11,190 @@ ghost use Rattle.meaning.specs.WordCalls.{joinCall, joinOut, wordReadCall, word
 ghost use Rattle.answers.specs.Verdicts.{countOf};
 
 // Two records of one word type, as a record of the next.
-pub fn word_product(kinds: &[u8], lefts: &[u16], rights: &[u16], widths: &[u64], sizes: &[u64], padded: &[u8], classes: &[u16], count: usize, a_bytes: &[u8], a_offset: usize, a_node: usize, b_bytes: &[u8], b_offset: usize, b_node: usize, result: usize, out: &mut [u8]) -> Count
+pub fn word_product(
+    kinds: &[u8],
+    lefts: &[u16],
+    rights: &[u16],
+    widths: &[u64],
+    sizes: &[u64],
+    padded: &[u8],
+    classes: &[u16],
+    count: usize,
+    a_bytes: &[u8],
+    a_offset: usize,
+    a_node: usize,
+    b_bytes: &[u8],
+    b_offset: usize,
+    b_node: usize,
+    result: usize,
+    out: &mut [u8],
+) -> Count
     ensures { λ r. ⌜ countOf r ≡ joinCall (table (now (kinds .entry)) (now (lefts .entry)) (now (rights .entry)) (now (widths .entry)) (now (sizes .entry)) (now (padded .entry)) (now (classes .entry)) count) (record-of (now («a_bytes» .entry)) «a_offset» «a_node») (record-of (now («b_bytes» .entry)) «b_offset» «b_node») result (now (out .entry)) ⌝ }
     ensures { λ _. ⌜ now (out .exit) ≡ joinOut (table (now (kinds .entry)) (now (lefts .entry)) (now (rights .entry)) (now (widths .entry)) (now (sizes .entry)) (now (padded .entry)) (now (classes .entry)) count) (record-of (now («a_bytes» .entry)) «a_offset» «a_node») (record-of (now («b_bytes» .entry)) «b_offset» «b_node») result (now (out .entry)) ⌝ }
 {
-    let judged = gate::two_to(kinds, lefts, rights, widths, sizes, padded, classes, count, a_bytes, a_offset, a_node, b_bytes, b_offset, b_node, result);
+    let judged = gate::two_to(
+        kinds,
+        lefts,
+        rights,
+        widths,
+        sizes,
+        padded,
+        classes,
+        count,
+        a_bytes,
+        a_offset,
+        a_node,
+        b_bytes,
+        b_offset,
+        b_node,
+        result,
+    );
     if let Done::Refused(r) = judged {
         return Count::Refused(r);
     }
-    let n = shapes::word_of(kinds, lefts, rights, widths, sizes, padded, classes, count, a_node);
+    let n = shapes::word_of(
+        kinds,
+        lefts,
+        rights,
+        widths,
+        sizes,
+        padded,
+        classes,
+        count,
+        a_node,
+    );
     if 31 <= n {
-        return Count::Refused(Refusal { number: 7, place: 0 });
+        return Count::Refused(Refusal {
+            number: 7,
+            place: 0,
+        });
     }
-    if !shapes::is_word(kinds, lefts, rights, widths, sizes, padded, classes, count, b_node, n) {
-        return Count::Refused(Refusal { number: 7, place: 0 });
+    if !shapes::is_word(
+        kinds,
+        lefts,
+        rights,
+        widths,
+        sizes,
+        padded,
+        classes,
+        count,
+        b_node,
+        n,
+    ) {
+        return Count::Refused(Refusal {
+            number: 7,
+            place: 0,
+        });
     }
-    if !shapes::is_word(kinds, lefts, rights, widths, sizes, padded, classes, count, result, n + 1) {
-        return Count::Refused(Refusal { number: 7, place: 0 });
+    if !shapes::is_word(
+        kinds,
+        lefts,
+        rights,
+        widths,
+        sizes,
+        padded,
+        classes,
+        count,
+        result,
+        n + 1,
+    ) {
+        return Count::Refused(Refusal {
+            number: 7,
+            place: 0,
+        });
     }
     let half = shapes::word_width(n) as usize;
     if out.len() < (half + half + 7) / 8 {
-        return Count::Refused(Refusal { number: 9, place: 0 });
+        return Count::Refused(Refusal {
+            number: 9,
+            place: 0,
+        });
     }
     let a_first = a_offset / 8;
     let b_first = b_offset / 8;
-    write_pair(out, &a_bytes[a_first..], a_offset % 8, &b_bytes[b_first..], b_offset % 8, half);
+    write_pair(
+        out,
+        &a_bytes[a_first..],
+        a_offset % 8,
+        &b_bytes[b_first..],
+        b_offset % 8,
+        half,
+    );
     Count::Is(half + half)
 }
 
 // Word type n, read from a stream: the answer is the next position.
-pub fn word_from_bits(kinds: &[u8], lefts: &[u16], rights: &[u16], widths: &[u64], sizes: &[u64], padded: &[u8], classes: &[u16], count: usize, bytes: &[u8], length: usize, position: usize, n: usize, node: usize, out: &mut [u8]) -> Count
+pub fn word_from_bits(
+    kinds: &[u8],
+    lefts: &[u16],
+    rights: &[u16],
+    widths: &[u64],
+    sizes: &[u64],
+    padded: &[u8],
+    classes: &[u16],
+    count: usize,
+    bytes: &[u8],
+    length: usize,
+    position: usize,
+    n: usize,
+    node: usize,
+    out: &mut [u8],
+) -> Count
     ensures { λ r. ⌜ countOf r ≡ wordReadCall (table (now (kinds .entry)) (now (lefts .entry)) (now (rights .entry)) (now (widths .entry)) (now (sizes .entry)) (now (padded .entry)) (now (classes .entry)) count) (stream-of (now (bytes .entry)) length position) n node (now (out .entry)) ⌝ }
     ensures { λ _. ⌜ now (out .exit) ≡ wordReadOut (table (now (kinds .entry)) (now (lefts .entry)) (now (rights .entry)) (now (widths .entry)) (now (sizes .entry)) (now (padded .entry)) (now (classes .entry)) count) (stream-of (now (bytes .entry)) length position) n node (now (out .entry)) ⌝ }
 {
-    let judged = gate::stream(kinds, lefts, rights, widths, sizes, padded, classes, count, bytes, length, position, node);
+    let judged = gate::stream(
+        kinds,
+        lefts,
+        rights,
+        widths,
+        sizes,
+        padded,
+        classes,
+        count,
+        bytes,
+        length,
+        position,
+        node,
+    );
     if let Done::Refused(r) = judged {
         return Count::Refused(r);
     }
     if 32 <= n {
-        return Count::Refused(Refusal { number: 6, place: 0 });
+        return Count::Refused(Refusal {
+            number: 6,
+            place: 0,
+        });
     }
-    if !shapes::is_word(kinds, lefts, rights, widths, sizes, padded, classes, count, node, n) {
-        return Count::Refused(Refusal { number: 7, place: 0 });
+    if !shapes::is_word(
+        kinds,
+        lefts,
+        rights,
+        widths,
+        sizes,
+        padded,
+        classes,
+        count,
+        node,
+        n,
+    ) {
+        return Count::Refused(Refusal {
+            number: 7,
+            place: 0,
+        });
     }
     let width = shapes::word_width(n) as usize;
     if length - position < width {
-        return Count::Refused(Refusal { number: 8, place: 0 });
+        return Count::Refused(Refusal {
+            number: 8,
+            place: 0,
+        });
     }
     if out.len() < (width + 7) / 8 {
-        return Count::Refused(Refusal { number: 9, place: 0 });
+        return Count::Refused(Refusal {
+            number: 9,
+            place: 0,
+        });
     }
     let first = position / 8;
     write_run(out, &bytes[first..], position % 8, width);

@@ -2,8 +2,8 @@
 // Inner: a public call has checked that what is written lies within its bytes and that the output has room.
 ghost use mathlib.Core.Path.{_≡_};
 ghost use mathlib.Core.List.{_++_};
-ghost use Prim.Native.Nat.{_+_, _*_, _≤_};
-ghost use lib.ListN.{length, take, drop};
+ghost use Prim.Native.Nat.{_+_, _≤_};
+ghost use lib.ListN.{take, drop};
 ghost use Rattle.meaning.specs.Bits.{bitsOf, toBits, written};
 ghost use Rattle.bits.specs.Runs.{Run};
 

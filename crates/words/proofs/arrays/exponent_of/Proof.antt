@@ -1,9 +1,8 @@
 -- `words::arrays::exponent_of` meets its contract: only the number of zeros below the lowest bit can be the exponent. Assumes nothing.
-use Prim.Native.Nat.{ℕ, _^_, _≤_, _<_}
+use Prim.Native.Nat.{ℕ, _^_, _<_}
 use mathlib.Core.Path.{_≡_, sym, ap, _∙_}
 use native.Mathlib.Omega.{arith}
 use lib.Count.{trailingZeros, trailing-le}
-use borrow.Author.Needs.{needs}
 use Rattle.meaning.specs.Words.{exponent}
 use Rattle.shapes.proofs.Widths.{word-widths}
 use Rattle.words.proofs.Ranges.{exponent-pow, exponent-is, exponent-else, exponent-zeros}

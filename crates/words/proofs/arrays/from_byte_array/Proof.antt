@@ -1,16 +1,14 @@
 -- `words::arrays::from_byte_array` meets its contract: a length of 2^k bytes is that of word 3 + k. Assumes nothing.
-use Prim.Native.Nat.{ℕ, _+_, _*_, _^_, _≤_, _<_}
-use mathlib.Core.Path.{_≡_, sym, ap, _∙_}
-use mathlib.Core.Bool.{Bool}
+use Prim.Native.Nat.{ℕ, _+_}
+use mathlib.Core.Path.{ap, _∙_}
 use native.Mathlib.Omega.{arith}
 use lib.Dec.{ltb}
 use lib.ListN.{length}
-use lib.Pow.{pow-add}
 use borrow.Author.Needs.{needs}
 use borrow.Author.Tests.{ltb-true}
 use Rattle.meaning.specs.Tables.{Table, table}
 use Rattle.meaning.specs.Bits.{bitsOf}
-use Rattle.meaning.specs.Words.{isWord, exponent}
+use Rattle.meaning.specs.Words.{isWord}
 use Rattle.meaning.specs.Ladder.{makes, made, typeAt}
 use Rattle.meaning.specs.WordCalls.{fromRange}
 use Rattle.words.proofs.Ranges.{exponent-most, exponent-bytes}

@@ -1,11 +1,11 @@
 -- `words::fixed::bytes_word` meets its contract: the ladder's numbers in their order, then the bits of the bytes. Assumes nothing.
-use Prim.Native.Nat.{ℕ, _+_, _*_, _^_, _≤_}
+use Prim.Native.Nat.{_*_, _^_, _≤_}
 use mathlib.Core.Path.{_≡_, sym, ap, _∙_}
 use mathlib.Core.Bool.{Bool, true}
 use mathlib.Core.List.{List, [], _∷_}
 use native.Mathlib.Nat.{le-of-eq}
 use native.Mathlib.Omega.{arith}
-use lib.ListN.{length, take}
+use lib.ListN.{length}
 use lib.Seq.{take-all}
 use borrow.Author.Needs.{needs}
 use borrow.Author.Tests.{not-true, not-false}
@@ -60,7 +60,7 @@ narrow c =
     let s = c .before .before .before .before .before .before .before .before .before .before .before .before .before .before .before in
     let p = named-passed (of s) (s .args .result ∷ []) (passed (c .before .before .before)) .1 .0 .narrow in
     let b : bits (typeAt (of s) (s .args .result)) ≡ 2 ^ (s .args .n) =
-        ap bits (isWord-word (s .args .n) (typeAt (of s) (s .args .result)) (is-right c)) ∙ bits-word (s .args .n) in
+    ap bits (isWord-word (s .args .n) (typeAt (of s) (s .args .result)) (is-right c)) ∙ bits-word (s .args .n) in
     let e = s .pre (in-range (c .before .before)) in
     omega arith
 

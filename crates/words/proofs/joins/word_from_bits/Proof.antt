@@ -13,7 +13,7 @@ use Rattle.meaning.specs.Types.{Ty, bits}
 use Rattle.meaning.specs.Tables.{Table, table}
 use Rattle.meaning.specs.Bits.{bitsOf, written}
 use Rattle.meaning.specs.Words.{isWord}
-use Rattle.meaning.specs.Codecs.{Decoded, early, decoded}
+use Rattle.meaning.specs.Codecs.{Decoded, decoded}
 use Rattle.meaning.specs.Ladder.{accepted, Rung, ladder, Stream, stream-of, typeAt, restOf}
 use Rattle.meaning.specs.CodecCalls.{readRungs, paddedIn}
 use Rattle.meaning.specs.WordCalls.{wordReadRungs}

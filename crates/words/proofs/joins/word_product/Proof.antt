@@ -1,7 +1,7 @@
 -- `words::joins::word_product` meets its contract: the ladder's numbers in their order, then one word and the other. Assumes nothing.
 use Prim.Native.Nat.{ℕ, suc, _+_, _*_, _/_, _^_, _≤_, _<_}
-use mathlib.Core.Path.{_≡_, sym, ap, ap₂, _∙_, subst}
-use mathlib.Core.Bool.{Bool, true, false, _&&_}
+use mathlib.Core.Path.{_≡_, sym, ap, ap₂, _∙_}
+use mathlib.Core.Bool.{Bool, true, _&&_}
 use mathlib.Core.List.{List, [], _∷_, _++_}
 use native.Mathlib.Nat.{two-pow-succ}
 use native.Mathlib.Numerals.{add-one}
@@ -11,10 +11,10 @@ use lib.ListN.{length, length-append}
 use borrow.Author.Needs.{needs}
 use borrow.Author.Tests.{lt-ltb, le-ltb, not-true, not-false}
 use Rattle.answers.specs.Verdicts.{doneOf}
-use Rattle.meaning.specs.Types.{Ty, bits}
+use Rattle.meaning.specs.Types.{bits}
 use Rattle.meaning.specs.Tables.{Table, table}
 use Rattle.meaning.specs.Bits.{written}
-use Rattle.meaning.specs.Words.{word, isWord, asWord, joins}
+use Rattle.meaning.specs.Words.{isWord, asWord, joins}
 use Rattle.meaning.specs.Ladder.{accepted, Rung, ladder, Record, record-of, typeAt, typeOf, recordBits}
 use Rattle.meaning.specs.RecordCalls.{handed, productBits}
 use Rattle.meaning.specs.WordCalls.{joinRungs}
@@ -112,10 +112,10 @@ narrow c =
     let n = c .before .before .before .before .before .before .word-of .result in
     let p = handed-passed (of s) (first s ∷ second s ∷ []) (s .args .result ∷ []) (passed (c .before .before .before .before .before .before .before)) .1 .1 .1 .0 .narrow in
     let whole : bits (typeAt (of s) (s .args .result)) ≡ 2 ^ suc n =
-        ap bits
-        (isWord-word (n + 1) (typeAt (of s) (s .args .result)) (sym (c .before .before .is-word2 .ensures) ∙ not-false (c .before .before .is-word2 .result) (c .before .if3 .left)))
-        ∙ bits-word (n + 1)
-        ∙ ap (λ (k : ℕ). 2 ^ k) (add-one n) in
+    ap bits
+    (isWord-word (n + 1) (typeAt (of s) (s .args .result)) (sym (c .before .before .is-word2 .ensures) ∙ not-false (c .before .before .is-word2 .result) (c .before .if3 .left)))
+    ∙ bits-word (n + 1)
+    ∙ ap (λ (k : ℕ). 2 ^ k) (add-one n) in
     let d = two-pow-succ n in
     let w : c .word-width .result ≡ 2 ^ n = c .word-width .ensures ∙ word-widths n (omega arith) in
     omega arith
@@ -249,8 +249,7 @@ write-pair-requires c κs =
     let j = second-in (c .before .before .before .before) in
     let a = part-length (s .args .a-offset / 8) (s .args .a-bytes .now) in
     let b = part-length (s .args .b-offset / 8) (s .args .b-bytes .now) in
-    let r = c .before .before .before .if4 .left in
-    (
+    let r = c .before .before .before .if4 .left in (
       record { inside = omega arith; counted = omega arith },
       (
         m,

@@ -1,17 +1,16 @@
--- `words::fixed::number_word` meets its contract: the ladder's numbers in their order, then the bits of the number. Assumes nothing.
-use Prim.Native.Nat.{ℕ, _+_, _/_, _^_, _≤_, _<_}
+-- `words::numbers::number_word` meets its contract: the ladder's numbers in their order, then the bits of the number. Assumes nothing.
+use Prim.Native.Nat.{ℕ, _^_, _≤_, _<_}
 use mathlib.Core.Path.{_≡_, sym, ap, _∙_}
-use mathlib.Core.Bool.{Bool, true, false}
+use mathlib.Core.Bool.{Bool, true}
 use mathlib.Core.List.{List, [], _∷_}
 use native.Mathlib.Omega.{arith}
 use lib.Dec.{ltb}
-use lib.ListN.{length}
 use lib.Pow.{pow-mono}
 use borrow.Author.Needs.{needs}
 use borrow.Author.Tests.{not-true, not-false}
 use Rattle.answers.specs.Verdicts.{doneOf}
 use Rattle.meaning.specs.Tables.{Table, table}
-use Rattle.meaning.specs.Bits.{toBits, written, room}
+use Rattle.meaning.specs.Bits.{toBits, written}
 use Rattle.meaning.specs.Words.{isWord}
 use Rattle.meaning.specs.Ladder.{accepted, Rung, ladder, named, typeAt}
 use Rattle.meaning.specs.WordCalls.{numberRungs}
@@ -20,8 +19,8 @@ use Rattle.gate.proofs.Passed.{named-passed}
 use Rattle.shapes.proofs.Widths.{word-widths}
 use Rattle.words.proofs.Ranges.{shifted-in, shifted-out}
 use Rattle.words.proofs.Rungs.{refuses, short, fulfils, range-stop, range-missed, range-shape, range-pass}
-use Rattle.words.proofs.fixed.number_word.Statement.{statement}
-use Rattle.words.proofs.fixed.number_word.Tie as tie
+use Rattle.words.proofs.numbers.number_word.Statement.{statement}
+use Rattle.words.proofs.numbers.number_word.Tie as tie
 
 -- The table that the columns make; the tests of 6 and 7, the call's rungs and the record's bits; the rungs of the gate.
 abbrev of : tie.Start → Table
