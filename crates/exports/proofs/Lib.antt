@@ -1,0 +1,8 @@
+-- What the proofs of several functions use.
+mod Places
+mod Offsets
+mod Nears
+mod Crossing
+mod Fronts
+mod States
+pub mod Results

@@ -1,0 +1,169 @@
+// Comparison and lengths of records, for C.
+use crate::told::tell_count;
+use crate::told::tell_flag;
+use crate::told::tell_order;
+ghost use mathlib.Core.Path.{_≡_};
+ghost use Rattle.meaning.specs.Tables.{table};
+ghost use Rattle.meaning.specs.Ladder.{record-of};
+ghost use Rattle.meaning.specs.RecordCalls.{equal, compareCall, compactLen, paddedLen};
+ghost use Rattle.exports.specs.Codes.{code, stored, storedFlag, storedOrder};
+
+// Whether two records have the same type and the same bits.
+#[no_mangle]
+pub extern "C" fn qv_equal(
+    kinds: &[u8],
+    lefts: &[u16],
+    rights: &[u16],
+    widths: &[u64],
+    sizes: &[u64],
+    padded: &[u8],
+    classes: &[u16],
+    count: usize,
+    a_bytes: &[u8],
+    a_offset: usize,
+    a_node: usize,
+    b_bytes: &[u8],
+    b_offset: usize,
+    b_node: usize,
+    answer: &mut u64,
+) -> u64
+    ensures { λ r. ⌜ r ≡ code (equal (table (now (kinds .entry)) (now (lefts .entry)) (now (rights .entry)) (now (widths .entry)) (now (sizes .entry)) (now (padded .entry)) (now (classes .entry)) count) (record-of (now («a_bytes» .entry)) «a_offset» «a_node») (record-of (now («b_bytes» .entry)) «b_offset» «b_node»)) ⌝ }
+    ensures { λ _. ⌜ now (answer .exit) ≡ storedFlag (equal (table (now (kinds .entry)) (now (lefts .entry)) (now (rights .entry)) (now (widths .entry)) (now (sizes .entry)) (now (padded .entry)) (now (classes .entry)) count) (record-of (now («a_bytes» .entry)) «a_offset» «a_node») (record-of (now («b_bytes» .entry)) «b_offset» «b_node»)) (now (answer .entry)) ⌝ }
+{
+    tell_flag(
+        value::equal(
+            kinds,
+            lefts,
+            rights,
+            widths,
+            sizes,
+            padded,
+            classes,
+            count,
+            a_bytes,
+            a_offset,
+            a_node,
+            b_bytes,
+            b_offset,
+            b_node,
+        ),
+        answer,
+    )
+}
+
+// Accepted: the order of two records, by class and then by the first differing bit.
+#[no_mangle]
+pub extern "C" fn qv_compare(
+    kinds: &[u8],
+    lefts: &[u16],
+    rights: &[u16],
+    widths: &[u64],
+    sizes: &[u64],
+    padded: &[u8],
+    classes: &[u16],
+    count: usize,
+    a_bytes: &[u8],
+    a_offset: usize,
+    a_node: usize,
+    b_bytes: &[u8],
+    b_offset: usize,
+    b_node: usize,
+    order: &mut u64,
+) -> u64
+    ensures { λ r. ⌜ r ≡ code (compareCall (table (now (kinds .entry)) (now (lefts .entry)) (now (rights .entry)) (now (widths .entry)) (now (sizes .entry)) (now (padded .entry)) (now (classes .entry)) count) (record-of (now («a_bytes» .entry)) «a_offset» «a_node») (record-of (now («b_bytes» .entry)) «b_offset» «b_node»)) ⌝ }
+    ensures { λ _. ⌜ now (order .exit) ≡ storedOrder (compareCall (table (now (kinds .entry)) (now (lefts .entry)) (now (rights .entry)) (now (widths .entry)) (now (sizes .entry)) (now (padded .entry)) (now (classes .entry)) count) (record-of (now («a_bytes» .entry)) «a_offset» «a_node») (record-of (now («b_bytes» .entry)) «b_offset» «b_node»)) (now (order .entry)) ⌝ }
+{
+    tell_order(
+        value::compare(
+            kinds,
+            lefts,
+            rights,
+            widths,
+            sizes,
+            padded,
+            classes,
+            count,
+            a_bytes,
+            a_offset,
+            a_node,
+            b_bytes,
+            b_offset,
+            b_node,
+        ),
+        order,
+    )
+}
+
+// Accepted: how many compact bits a record has.
+#[no_mangle]
+pub extern "C" fn qv_compact_len(
+    kinds: &[u8],
+    lefts: &[u16],
+    rights: &[u16],
+    widths: &[u64],
+    sizes: &[u64],
+    padded: &[u8],
+    classes: &[u16],
+    count: usize,
+    bytes: &[u8],
+    offset: usize,
+    node: usize,
+    bits: &mut u64,
+) -> u64
+    ensures { λ r. ⌜ r ≡ code (compactLen (table (now (kinds .entry)) (now (lefts .entry)) (now (rights .entry)) (now (widths .entry)) (now (sizes .entry)) (now (padded .entry)) (now (classes .entry)) count) (record-of (now (bytes .entry)) offset node)) ⌝ }
+    ensures { λ _. ⌜ now (bits .exit) ≡ stored (compactLen (table (now (kinds .entry)) (now (lefts .entry)) (now (rights .entry)) (now (widths .entry)) (now (sizes .entry)) (now (padded .entry)) (now (classes .entry)) count) (record-of (now (bytes .entry)) offset node)) (now (bits .entry)) ⌝ }
+{
+    tell_count(
+        codec::compact_len(
+            kinds,
+            lefts,
+            rights,
+            widths,
+            sizes,
+            padded,
+            classes,
+            count,
+            bytes,
+            offset,
+            node,
+        ),
+        bits,
+    )
+}
+
+// Accepted: the width of a record.
+#[no_mangle]
+pub extern "C" fn qv_padded_len(
+    kinds: &[u8],
+    lefts: &[u16],
+    rights: &[u16],
+    widths: &[u64],
+    sizes: &[u64],
+    padded: &[u8],
+    classes: &[u16],
+    count: usize,
+    bytes: &[u8],
+    offset: usize,
+    node: usize,
+    bits: &mut u64,
+) -> u64
+    ensures { λ r. ⌜ r ≡ code (paddedLen (table (now (kinds .entry)) (now (lefts .entry)) (now (rights .entry)) (now (widths .entry)) (now (sizes .entry)) (now (padded .entry)) (now (classes .entry)) count) (record-of (now (bytes .entry)) offset node)) ⌝ }
+    ensures { λ _. ⌜ now (bits .exit) ≡ stored (paddedLen (table (now (kinds .entry)) (now (lefts .entry)) (now (rights .entry)) (now (widths .entry)) (now (sizes .entry)) (now (padded .entry)) (now (classes .entry)) count) (record-of (now (bytes .entry)) offset node)) (now (bits .entry)) ⌝ }
+{
+    tell_count(
+        value::padded_len(
+            kinds,
+            lefts,
+            rights,
+            widths,
+            sizes,
+            padded,
+            classes,
+            count,
+            bytes,
+            offset,
+            node,
+        ),
+        bits,
+    )
+}

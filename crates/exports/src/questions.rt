@@ -1,0 +1,279 @@
+// Questions about types, for C.
+use crate::told::tell_count;
+use crate::told::tell_facts;
+use crate::told::tell_flag;
+use crate::told::tell_sides;
+ghost use mathlib.Core.Path.{_≡_};
+ghost use Rattle.meaning.specs.Tables.{table};
+ghost use Rattle.meaning.specs.TypeCalls.{factsOf, sameType, isUnitCall, isEmptyCall, typeAsSum, typeAsProduct, padLeftCall, padRightCall};
+ghost use Rattle.exports.specs.Codes.{code, stored, storedFlag, roomy, storedAll, factsList, sidesList};
+
+// Accepted: width, size, padded, class, kind, left and right of a node.
+#[no_mangle]
+pub extern "C" fn qv_facts_of(
+    kinds: &[u8],
+    lefts: &[u16],
+    rights: &[u16],
+    widths: &[u64],
+    sizes: &[u64],
+    padded: &[u8],
+    classes: &[u16],
+    count: usize,
+    node: usize,
+    facts: &mut [u64],
+) -> u64
+    ensures { λ r. ⌜ r ≡ code (roomy factsList (now (facts .entry)) (factsOf (table (now (kinds .entry)) (now (lefts .entry)) (now (rights .entry)) (now (widths .entry)) (now (sizes .entry)) (now (padded .entry)) (now (classes .entry)) count) node)) ⌝ }
+    ensures { λ _. ⌜ now (facts .exit) ≡ storedAll factsList (roomy factsList (now (facts .entry)) (factsOf (table (now (kinds .entry)) (now (lefts .entry)) (now (rights .entry)) (now (widths .entry)) (now (sizes .entry)) (now (padded .entry)) (now (classes .entry)) count) node)) (now (facts .entry)) ⌝ }
+{
+    tell_facts(
+        table::facts_of(
+            kinds,
+            lefts,
+            rights,
+            widths,
+            sizes,
+            padded,
+            classes,
+            count,
+            node,
+        ),
+        facts,
+    )
+}
+
+// Whether two nodes have the same type.
+#[no_mangle]
+pub extern "C" fn qv_same_type(
+    kinds: &[u8],
+    lefts: &[u16],
+    rights: &[u16],
+    widths: &[u64],
+    sizes: &[u64],
+    padded: &[u8],
+    classes: &[u16],
+    count: usize,
+    a: usize,
+    b: usize,
+    answer: &mut u64,
+) -> u64
+    ensures { λ r. ⌜ r ≡ code (sameType (table (now (kinds .entry)) (now (lefts .entry)) (now (rights .entry)) (now (widths .entry)) (now (sizes .entry)) (now (padded .entry)) (now (classes .entry)) count) a b) ⌝ }
+    ensures { λ _. ⌜ now (answer .exit) ≡ storedFlag (sameType (table (now (kinds .entry)) (now (lefts .entry)) (now (rights .entry)) (now (widths .entry)) (now (sizes .entry)) (now (padded .entry)) (now (classes .entry)) count) a b) (now (answer .entry)) ⌝ }
+{
+    tell_flag(
+        table::same_type(
+            kinds,
+            lefts,
+            rights,
+            widths,
+            sizes,
+            padded,
+            classes,
+            count,
+            a,
+            b,
+        ),
+        answer,
+    )
+}
+
+// Whether a type is unit.
+#[no_mangle]
+pub extern "C" fn qv_is_unit(
+    kinds: &[u8],
+    lefts: &[u16],
+    rights: &[u16],
+    widths: &[u64],
+    sizes: &[u64],
+    padded: &[u8],
+    classes: &[u16],
+    count: usize,
+    node: usize,
+    answer: &mut u64,
+) -> u64
+    ensures { λ r. ⌜ r ≡ code (isUnitCall (table (now (kinds .entry)) (now (lefts .entry)) (now (rights .entry)) (now (widths .entry)) (now (sizes .entry)) (now (padded .entry)) (now (classes .entry)) count) node) ⌝ }
+    ensures { λ _. ⌜ now (answer .exit) ≡ storedFlag (isUnitCall (table (now (kinds .entry)) (now (lefts .entry)) (now (rights .entry)) (now (widths .entry)) (now (sizes .entry)) (now (padded .entry)) (now (classes .entry)) count) node) (now (answer .entry)) ⌝ }
+{
+    tell_flag(
+        table::is_unit(
+            kinds,
+            lefts,
+            rights,
+            widths,
+            sizes,
+            padded,
+            classes,
+            count,
+            node,
+        ),
+        answer,
+    )
+}
+
+// Whether a type has no width.
+#[no_mangle]
+pub extern "C" fn qv_is_empty(
+    kinds: &[u8],
+    lefts: &[u16],
+    rights: &[u16],
+    widths: &[u64],
+    sizes: &[u64],
+    padded: &[u8],
+    classes: &[u16],
+    count: usize,
+    node: usize,
+    answer: &mut u64,
+) -> u64
+    ensures { λ r. ⌜ r ≡ code (isEmptyCall (table (now (kinds .entry)) (now (lefts .entry)) (now (rights .entry)) (now (widths .entry)) (now (sizes .entry)) (now (padded .entry)) (now (classes .entry)) count) node) ⌝ }
+    ensures { λ _. ⌜ now (answer .exit) ≡ storedFlag (isEmptyCall (table (now (kinds .entry)) (now (lefts .entry)) (now (rights .entry)) (now (widths .entry)) (now (sizes .entry)) (now (padded .entry)) (now (classes .entry)) count) node) (now (answer .entry)) ⌝ }
+{
+    tell_flag(
+        table::is_empty(
+            kinds,
+            lefts,
+            rights,
+            widths,
+            sizes,
+            padded,
+            classes,
+            count,
+            node,
+        ),
+        answer,
+    )
+}
+
+// Accepted: the sides of a sum.
+#[no_mangle]
+pub extern "C" fn qv_type_as_sum(
+    kinds: &[u8],
+    lefts: &[u16],
+    rights: &[u16],
+    widths: &[u64],
+    sizes: &[u64],
+    padded: &[u8],
+    classes: &[u16],
+    count: usize,
+    node: usize,
+    sides: &mut [u64],
+) -> u64
+    ensures { λ r. ⌜ r ≡ code (roomy sidesList (now (sides .entry)) (typeAsSum (table (now (kinds .entry)) (now (lefts .entry)) (now (rights .entry)) (now (widths .entry)) (now (sizes .entry)) (now (padded .entry)) (now (classes .entry)) count) node)) ⌝ }
+    ensures { λ _. ⌜ now (sides .exit) ≡ storedAll sidesList (roomy sidesList (now (sides .entry)) (typeAsSum (table (now (kinds .entry)) (now (lefts .entry)) (now (rights .entry)) (now (widths .entry)) (now (sizes .entry)) (now (padded .entry)) (now (classes .entry)) count) node)) (now (sides .entry)) ⌝ }
+{
+    tell_sides(
+        table::as_sum(
+            kinds,
+            lefts,
+            rights,
+            widths,
+            sizes,
+            padded,
+            classes,
+            count,
+            node,
+        ),
+        sides,
+    )
+}
+
+// Accepted: the sides of a product.
+#[no_mangle]
+pub extern "C" fn qv_type_as_product(
+    kinds: &[u8],
+    lefts: &[u16],
+    rights: &[u16],
+    widths: &[u64],
+    sizes: &[u64],
+    padded: &[u8],
+    classes: &[u16],
+    count: usize,
+    node: usize,
+    sides: &mut [u64],
+) -> u64
+    ensures { λ r. ⌜ r ≡ code (roomy sidesList (now (sides .entry)) (typeAsProduct (table (now (kinds .entry)) (now (lefts .entry)) (now (rights .entry)) (now (widths .entry)) (now (sizes .entry)) (now (padded .entry)) (now (classes .entry)) count) node)) ⌝ }
+    ensures { λ _. ⌜ now (sides .exit) ≡ storedAll sidesList (roomy sidesList (now (sides .entry)) (typeAsProduct (table (now (kinds .entry)) (now (lefts .entry)) (now (rights .entry)) (now (widths .entry)) (now (sizes .entry)) (now (padded .entry)) (now (classes .entry)) count) node)) (now (sides .entry)) ⌝ }
+{
+    tell_sides(
+        table::as_product(
+            kinds,
+            lefts,
+            rights,
+            widths,
+            sizes,
+            padded,
+            classes,
+            count,
+            node,
+        ),
+        sides,
+    )
+}
+
+// Accepted: the padding of left records of the sum of two types.
+#[no_mangle]
+pub extern "C" fn qv_pad_left(
+    kinds: &[u8],
+    lefts: &[u16],
+    rights: &[u16],
+    widths: &[u64],
+    sizes: &[u64],
+    padded: &[u8],
+    classes: &[u16],
+    count: usize,
+    a: usize,
+    b: usize,
+    padding: &mut u64,
+) -> u64
+    ensures { λ r. ⌜ r ≡ code (padLeftCall (table (now (kinds .entry)) (now (lefts .entry)) (now (rights .entry)) (now (widths .entry)) (now (sizes .entry)) (now (padded .entry)) (now (classes .entry)) count) a b) ⌝ }
+    ensures { λ _. ⌜ now (padding .exit) ≡ stored (padLeftCall (table (now (kinds .entry)) (now (lefts .entry)) (now (rights .entry)) (now (widths .entry)) (now (sizes .entry)) (now (padded .entry)) (now (classes .entry)) count) a b) (now (padding .entry)) ⌝ }
+{
+    tell_count(
+        table::pad_left(
+            kinds,
+            lefts,
+            rights,
+            widths,
+            sizes,
+            padded,
+            classes,
+            count,
+            a,
+            b,
+        ),
+        padding,
+    )
+}
+
+// Accepted: the padding of right records of the sum of two types.
+#[no_mangle]
+pub extern "C" fn qv_pad_right(
+    kinds: &[u8],
+    lefts: &[u16],
+    rights: &[u16],
+    widths: &[u64],
+    sizes: &[u64],
+    padded: &[u8],
+    classes: &[u16],
+    count: usize,
+    a: usize,
+    b: usize,
+    padding: &mut u64,
+) -> u64
+    ensures { λ r. ⌜ r ≡ code (padRightCall (table (now (kinds .entry)) (now (lefts .entry)) (now (rights .entry)) (now (widths .entry)) (now (sizes .entry)) (now (padded .entry)) (now (classes .entry)) count) a b) ⌝ }
+    ensures { λ _. ⌜ now (padding .exit) ≡ stored (padRightCall (table (now (kinds .entry)) (now (lefts .entry)) (now (rights .entry)) (now (widths .entry)) (now (sizes .entry)) (now (padded .entry)) (now (classes .entry)) count) a b) (now (padding .entry)) ⌝ }
+{
+    tell_count(
+        table::pad_right(
+            kinds,
+            lefts,
+            rights,
+            widths,
+            sizes,
+            padded,
+            classes,
+            count,
+            a,
+            b,
+        ),
+        padding,
+    )
+}

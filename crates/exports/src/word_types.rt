@@ -1,0 +1,126 @@
+// Questions about word types, buffer types and the hash state's type, for C.
+use crate::told::tell_count;
+use crate::told::tell_flag;
+ghost use mathlib.Core.Path.{_≡_};
+ghost use Rattle.meaning.specs.Tables.{table};
+ghost use Rattle.meaning.specs.TypeCalls.{asWordCall, wordWidth, bufferWidth, isBuffer8, isCtx8};
+ghost use Rattle.exports.specs.Codes.{code, stored, storedFlag};
+
+// Accepted: the n of a word type.
+#[no_mangle]
+pub extern "C" fn qv_as_word(
+    kinds: &[u8],
+    lefts: &[u16],
+    rights: &[u16],
+    widths: &[u64],
+    sizes: &[u64],
+    padded: &[u8],
+    classes: &[u16],
+    count: usize,
+    node: usize,
+    n: &mut u64,
+) -> u64
+    ensures { λ r. ⌜ r ≡ code (asWordCall (table (now (kinds .entry)) (now (lefts .entry)) (now (rights .entry)) (now (widths .entry)) (now (sizes .entry)) (now (padded .entry)) (now (classes .entry)) count) node) ⌝ }
+    ensures { λ _. ⌜ now (n .exit) ≡ stored (asWordCall (table (now (kinds .entry)) (now (lefts .entry)) (now (rights .entry)) (now (widths .entry)) (now (sizes .entry)) (now (padded .entry)) (now (classes .entry)) count) node) (now (n .entry)) ⌝ }
+{
+    tell_count(
+        table::as_word(
+            kinds,
+            lefts,
+            rights,
+            widths,
+            sizes,
+            padded,
+            classes,
+            count,
+            node,
+        ),
+        n,
+    )
+}
+
+// Accepted: the width of word type n.
+#[no_mangle]
+pub extern "C" fn qv_word_width(n: usize, width: &mut u64) -> u64
+    ensures { λ r. ⌜ r ≡ code (wordWidth n) ⌝ }
+    ensures { λ _. ⌜ now (width .exit) ≡ stored (wordWidth n) (now (width .entry)) ⌝ }
+{
+    tell_count(table::word_width(n), width)
+}
+
+// Accepted: the width of buffer type n.
+#[no_mangle]
+pub extern "C" fn qv_buffer_width(n: usize, width: &mut u64) -> u64
+    ensures { λ r. ⌜ r ≡ code (bufferWidth n) ⌝ }
+    ensures { λ _. ⌜ now (width .exit) ≡ stored (bufferWidth n) (now (width .entry)) ⌝ }
+{
+    tell_count(table::buffer_width(n), width)
+}
+
+// Whether a type is buffer type n.
+#[no_mangle]
+pub extern "C" fn qv_is_buffer8(
+    kinds: &[u8],
+    lefts: &[u16],
+    rights: &[u16],
+    widths: &[u64],
+    sizes: &[u64],
+    padded: &[u8],
+    classes: &[u16],
+    count: usize,
+    node: usize,
+    n: usize,
+    answer: &mut u64,
+) -> u64
+    ensures { λ r. ⌜ r ≡ code (isBuffer8 (table (now (kinds .entry)) (now (lefts .entry)) (now (rights .entry)) (now (widths .entry)) (now (sizes .entry)) (now (padded .entry)) (now (classes .entry)) count) node n) ⌝ }
+    ensures { λ _. ⌜ now (answer .exit) ≡ storedFlag (isBuffer8 (table (now (kinds .entry)) (now (lefts .entry)) (now (rights .entry)) (now (widths .entry)) (now (sizes .entry)) (now (padded .entry)) (now (classes .entry)) count) node n) (now (answer .entry)) ⌝ }
+{
+    tell_flag(
+        table::is_buffer8(
+            kinds,
+            lefts,
+            rights,
+            widths,
+            sizes,
+            padded,
+            classes,
+            count,
+            node,
+            n,
+        ),
+        answer,
+    )
+}
+
+// Whether a type is the hash state's.
+#[no_mangle]
+pub extern "C" fn qv_is_ctx8(
+    kinds: &[u8],
+    lefts: &[u16],
+    rights: &[u16],
+    widths: &[u64],
+    sizes: &[u64],
+    padded: &[u8],
+    classes: &[u16],
+    count: usize,
+    node: usize,
+    answer: &mut u64,
+) -> u64
+    ensures { λ r. ⌜ r ≡ code (isCtx8 (table (now (kinds .entry)) (now (lefts .entry)) (now (rights .entry)) (now (widths .entry)) (now (sizes .entry)) (now (padded .entry)) (now (classes .entry)) count) node) ⌝ }
+    ensures { λ _. ⌜ now (answer .exit) ≡ storedFlag (isCtx8 (table (now (kinds .entry)) (now (lefts .entry)) (now (rights .entry)) (now (widths .entry)) (now (sizes .entry)) (now (padded .entry)) (now (classes .entry)) count) node) (now (answer .entry)) ⌝ }
+{
+    tell_flag(
+        table::is_ctx8(
+            kinds,
+            lefts,
+            rights,
+            widths,
+            sizes,
+            padded,
+            classes,
+            count,
+            node,
+        ),
+        answer,
+    )
+}
