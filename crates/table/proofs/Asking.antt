@@ -1,10 +1,11 @@
 -- How a question about types is answered: the table and the named nodes first, then its own rungs.
 --
---   Named                       the table is sound, and both nodes are in it
---   not-sound missing both-there    how the rungs 1 and 2 answer
---   named                       what is known once they let pass
+--   judged                      the rungs 1 and 2
+--   not-sound first-missing second-missing both-there   how they answer of two nodes
+--   Named named                 what is known once they let pass: the table is sound, and both nodes are in it
 --   asks-stop asks-pass         their refusal is the question's; past them its own rungs decide
---   once-stop once-pass         the same of one node that is asked twice
+--   once                        one node that is asked twice is asked once
+--   once-stop once-pass         so the same holds of a question about it
 --   answered once-answered      past them a question without rungs of its own has its answer
 --   ladder-value                a ladder accepts nothing but its value
 --   told-stop                   a refusal to tell the facts of a node is a question's about that node
@@ -95,7 +96,7 @@ twice : (x y : Bool) → (x || (x || y)) ≡ (x || y)
 twice true y = refl
 twice false y = refl
 
-once : (t : Table) (n : ℕ) → judged t (n ∷ n ∷ []) ≡ judged t (n ∷ [])
+pub once : (t : Table) (n : ℕ) → judged t (n ∷ n ∷ []) ≡ judged t (n ∷ [])
 once t n = ap (λ x. ladder (sound t ++ (rung x 2 0 ∷ [])) (tt {0})) (twice (leb (t .count) n) false)
 
 -- A question about one node that was asked twice.
