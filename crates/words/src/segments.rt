@@ -1,4 +1,4 @@
-// A buffer's segments, from n down, each with its tag. Inner: the data is within its limit and the output has room.
+// A buffer's segments, from n down, each with its tag. Inner: n is at most 12 and the output has room.
 ghost use mathlib.Core.Path.{_≡_};
 ghost use Prim.Native.Nat.{_+_, _*_, _^_, _<_, _≤_};
 ghost use lib.ListN.{length};
