@@ -1,4 +1,5 @@
 -- The laws of bits and bytes, for this crate and those above it.
+pub mod Lent
 pub mod Numbers
 pub mod OfBytes
 pub mod Packed

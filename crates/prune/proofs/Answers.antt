@@ -2,8 +2,7 @@
 --
 --   prune-stops prune-misshapen prune-short prune-done      refused by 1 to 5, by 7, by 9; accepted
 --   prune-refused prune-accepted        answer and output together
---   lent                        the part of a record's bytes that the walks are lent, `&bytes[offset / 8..]`
---   lent-cut                    the record cut there, at its offset in the first byte, is the record cut
+--   lent-cut                    the record cut in the bytes lent, at its offset in the first byte, is the record cut
 --   starts walk-lent            it begins within the bytes, and the walks may be sent there
 --   cut-length column-width     the cut has as many bits as the target, which is the width that the table tells
 -- Assumes nothing.
@@ -28,6 +27,7 @@ use Rattle.meaning.proofs.Types.{width-bits}
 use Rattle.meaning.proofs.Sounds.{sound-width}
 use Rattle.gate.proofs.Passed.{handed-passed}
 use Rattle.bits.proofs.OfBytes.{part-lent}
+use Rattle.bits.proofs.Lent.{lent, lent-starts, lent-inside}
 use Rattle.prune.specs.Walks.{Walk}
 use Rattle.prune.proofs.Walks.{cut-bits}
 
@@ -80,17 +80,14 @@ module _ (t : Table) (r : Record) (target : ℕ) (out : List ℕ) where
   prune-accepted n new e f =
       (sym e, f ∙ sym (kept-accepted (pruneCall t r target out) n out (written (cutBits (cutOf t r target)) out) e))
 
--- The part of a record's bytes that is lent.
-abbrev pub lent : List ℕ → ℕ → List ℕ
-lent bytes offset = take (length bytes - offset / 8) (drop (offset / 8) bytes)
-
 module _ (t : Table) (bytes : List ℕ) (offset node target : ℕ) where
   pub lent-cut : cutOf t (record-of (lent bytes offset) (offset % 8) node) target ≡ cutOf t (record-of bytes offset node) target
   unfolding recordBits
   lent-cut = ap (λ (v : List Bool). cut (typeAt t target) (typeAt t node) (take (bits (typeAt t node)) v)) (part-lent offset bytes)
 
   pub starts : Passes t (record-of bytes offset node) target → offset / 8 ≤ length bytes
-  starts h = let e = handed-passed t (record-of bytes offset node ∷ []) (target ∷ []) h .2 .0 .ends in omega arith
+  starts h =
+      lent-starts bytes offset (bits (typeAt t node)) (handed-passed t (record-of bytes offset node ∷ []) (target ∷ []) h .2 .0 .ends)
 
   pub walk-lent : Passes t (record-of bytes offset node) target → Walk t (lent bytes offset) (offset % 8) node target
   walk-lent h =
@@ -98,15 +95,12 @@ module _ (t : Table) (bytes : List ℕ) (offset node target : ℕ) where
       let given = p .1 .0 in
       let goal = p .1 .1 .0 in
       let narrow = given .narrow in
-      let ends = p .2 .0 .ends in
-      let l : length (lent bytes offset) ≡ length bytes - offset / 8 =
-      omega (arith, length-take (length bytes - offset / 8) (drop (offset / 8) bytes), length-drop (offset / 8) bytes) in
       record {
         sound = p .0;
         node-in = given .here;
         target-in = goal .here;
         target-low = goal .narrow;
-        lies = record { inside = omega arith; low = omega arith };
+        lies = record { inside = lent-inside bytes offset (bits (typeAt t node)) (p .2 .0 .ends); low = omega arith };
       }
 
   pub cut-length : Passes t (record-of bytes offset node) target → isCut (cutOf t (record-of bytes offset node) target) ≡ true

@@ -4,7 +4,7 @@
 --   record-bits cut-bits        the record has as many bits as its type; an accepted cut has as many as the target
 --   Step                        a walk whose target and whose record's node were read
 --   step-equal step-unit step-unlike step-like      the cut where a rule needs no further walk
---   SumStep step-sum accepts-sum        the cut of a sum, by the cut of its payload
+--   SumStep two-sums step-sum accepts-sum       the cut of a sum, by the cut of its payload
 --   walk-sum place-sum falls-sum        the walk to the payload
 --   spans-sum before-sum wrapped-sum    what is written before the payload
 --   ProductStep step-product accepts-product first-decides second-decides       the cut of a product, by the cuts of its parts
@@ -38,10 +38,10 @@ use Rattle.bits.proofs.Runs.{length-run}
 use Rattle.laws.proofs.CutSides.{side, wrapped}
 use Rattle.laws.proofs.CutRules.{different, cut-same, cut-unit, cut-product}
 use Rattle.laws.proofs.CutLaws.{length-cut}
-use Rattle.prune.specs.Walks.{Walk, UnderTag}
+use Rattle.prune.specs.Walks.{Walk, UnderTag, Sums}
 use Rattle.prune.specs.declared.Payload.{Payload}
 use Rattle.prune.proofs.CutSteps.{before, cut-tag, cut-unlike, tag-run, within-run, first-run, second-run, cut-is, wrapped-bits}
-use Rattle.prune.proofs.Sides.{low-width, some-bits, before-some, Under, under, Parts, parts}
+use Rattle.prune.proofs.Sides.{low-width, side-narrow, sum-bits, some-bits, before-some, Under, under, Parts, parts}
 use Rattle.prune.proofs.CutSteps.{isCut-rebuilt, isCut-joined}
 
 -- The record that a walk was sent to can be cut to its target.
@@ -131,6 +131,18 @@ pub record SumStep (t : Table) (src : List ℕ) (at node target : ℕ) (goal giv
   pub tag-is : g ≡ getD (bitsOf src) at false
   pub from : UnderTag given g p
   pub to : UnderTag goal g q
+
+-- Two nodes that were read and are sums.
+pub two-sums : {t : Table} {src : List ℕ} {at node target : ℕ} {goal given : Node} → Step t src at node target goal given
+    → goal .kind ≡ 1 → given .kind ≡ 1 → Sums src at given goal
+two-sums {t} {src} {at} {node} {target} {goal} {given} s e f =
+    let n = sum-bits t node given (s .given-read) (given-low s) f in
+    let i = s .walk .lies .inside in
+    record {
+      tagged = omega arith;
+      given-wide = λ g. side-narrow t node given (s .given-read) (given-low s) g f;
+      goal-wide = λ g. side-narrow t target goal (s .goal-read) (goal-low s) g e;
+    }
 
 module _ {t : Table} {src : List ℕ} {at node target : ℕ} {goal given : Node} {g : Bool} {p q : Payload}
     (s : SumStep t src at node target goal given g p q) where

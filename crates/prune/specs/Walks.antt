@@ -4,17 +4,20 @@
 --   Walk                 a record and a target that a walk may be sent down
 --   sideNode sideWidth   the side of a node that a tag names
 --   UnderTag             where the payload of a tag lies
+--   Sums TakenSide       a record and a target that are sums, and where a walk goes on below them
 use Prim.Native.Nat.{ℕ, _+_, _-_, _*_, _≤_, _<_}
 use mathlib.Core.Path.{_≡_}
 use mathlib.Core.Bool.{Bool, true, false}
 use mathlib.Core.List.{List}
-use lib.ListN.{length}
+use lib.ListN.{length, getD}
 use Rattle.meaning.specs.Types.{bits}
 use Rattle.meaning.specs.Tables.{Table}
+use Rattle.meaning.specs.Bits.{bitsOf}
 use Rattle.meaning.specs.Ladder.{typeAt}
 use Rattle.meaning.specs.Checked.{Sound}
 use Rattle.nodes.specs.declared.Node.{Node}
 use Rattle.prune.specs.declared.Payload.{Payload}
+use Rattle.prune.specs.declared.Taken.{Taken}
 
 -- n bits from bit `at` on lie within the bytes s, no further than a record of the greatest width that begins in the first byte.
 pub record Lies (s : List ℕ) (at n : ℕ) : Type 0 where
@@ -43,3 +46,15 @@ sideWidth false n = n .«left_width»
 pub record UnderTag (n : Node) (g : Bool) (s : Payload) : Type 0 where
   pub node-is : s .node ≡ sideNode g n
   pub before-is : s .before ≡ n .width - sideWidth g n
+
+-- The record at a bit has a tag, and neither its node nor the target is narrower than one of its sides.
+pub record Sums (src : List ℕ) (at : ℕ) (given goal : Node) : Type 0 where
+  pub tagged : at < 8 * length src
+  pub given-wide : (g : Bool) → sideWidth g given ≤ given .width
+  pub goal-wide : (g : Bool) → sideWidth g goal ≤ goal .width
+
+-- The tag of the record at a bit, and the payloads under it.
+pub record TakenSide (src : List ℕ) (at : ℕ) (given goal : Node) (s : Taken) : Type 0 where
+  pub tag-is : s .tag ≡ getD (bitsOf src) at false
+  pub from : UnderTag given (s .tag) (s .given)
+  pub to : UnderTag goal (s .tag) (s .goal)

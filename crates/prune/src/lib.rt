@@ -16,7 +16,7 @@ ghost use Rattle.meaning.specs.Bits.{bitsOf};
 ghost use Rattle.meaning.specs.Ladder.{record-of, typeAt};
 ghost use Rattle.meaning.specs.CutCalls.{isCut, cutBits, cutOf, pruneCall, pruneOut};
 ghost use Rattle.answers.specs.Verdicts.{countOf};
-ghost use Rattle.prune.specs.Walks.{Lies, Walk, UnderTag, sideWidth};
+ghost use Rattle.prune.specs.Walks.{Lies, Walk, UnderTag, sideWidth, Sums, TakenSide};
 
 // The payload under a tag: its node, and how many bits of tag and padding stand before it.
 struct Payload {
@@ -37,6 +37,25 @@ fn under_tag(n: Node, tag: bool) -> Payload
     Payload {
         node: n.left,
         before: (n.width - n.left_width) as usize,
+    }
+}
+
+// Where a walk goes on below two sums: the record's tag, and the payloads under it in the record and in the target.
+struct Taken {
+    tag: bool,
+    given: Payload,
+    goal: Payload,
+}
+
+fn taken_side(src: &[u8], at: usize, given: Node, goal: Node) -> Taken
+    requires { ⌜ Sums (now src) at given goal ⌝ }
+    ensures { λ r. ⌜ TakenSide (now (src .entry)) at given goal r ⌝ }
+{
+    let tag = bits::bit_at(src, at);
+    Taken {
+        tag: tag,
+        given: under_tag(given, tag),
+        goal: under_tag(goal, tag),
     }
 }
 
@@ -94,9 +113,7 @@ fn fits(
         return false;
     }
     if goal_kind == 1 {
-        let tag = bits::bit_at(src, at);
-        let from = under_tag(given, tag);
-        let to = under_tag(goal, tag);
+        let side = taken_side(src, at, given, goal);
         return fits(
             kinds,
             lefts,
@@ -107,9 +124,9 @@ fn fits(
             classes,
             count,
             src,
-            at + from.before,
-            from.node,
-            to.node,
+            at + side.given.before,
+            side.given.node,
+            side.goal.node,
         );
     }
     if !fits(
@@ -199,11 +216,11 @@ fn write(
         return;
     }
     if wanted_kind == 1 {
-        let tag = bits::bit_at(src, at);
-        let source = under_tag(held, tag);
-        let place = under_tag(wanted, tag);
-        let before = place.before;
-        bits::put_bit(out, to, tag);
+        let side = taken_side(src, at, held, wanted);
+        let source = side.given.node;
+        let place = side.goal.node;
+        let before = side.goal.before;
+        bits::put_bit(out, to, side.tag);
         bits::clear_bits(out, to + 1, before - 1);
         write(
             kinds,
@@ -215,9 +232,9 @@ fn write(
             classes,
             count,
             src,
-            at + source.before,
-            source.node,
-            place.node,
+            at + side.given.before,
+            source,
+            place,
             out,
             to + before,
         );

@@ -8,14 +8,15 @@
 --                                   views, after the rungs that all calls on records share
 --   alikeAt orderedAt               equality and order, after those rungs
 --   wrapFits wrapBits joinFits optionFits    when a result fits what is to be put into it, and the bits of a sum
+--   sideCall sideOut                `left` and `right`: the answer and the output
 use Prim.Native.Nat.{ℕ, _+_, Ordering}
 use mathlib.Core.Bool.{Bool, true, false, not, _&&_}
-use mathlib.Core.List.{List, _++_}
+use mathlib.Core.List.{List, [], _∷_, _++_}
 use Rattle.meaning.specs.Types.{Ty, same, bits, isUnit, isSum, isProd, leftSide, rightSide}
 use Rattle.meaning.specs.Tables.{Columns, Table, left, right}
 use Rattle.meaning.specs.Records.{tag, padLeft, padRight, inLeft, inRight, sameBits, orderBits}
-use Rattle.meaning.specs.Ladder.{Answer, Rung, ladder, Record, typeAt, typeOf, recordBits, shaped}
-use Rattle.meaning.specs.RecordCalls.{Spot, Spots, addressed, orderThen, orderTypes}
+use Rattle.meaning.specs.Ladder.{Answer, Rung, ladder, Record, typeAt, typeOf, recordBits, shaped, makes, made}
+use Rattle.meaning.specs.RecordCalls.{Spot, Spots, addressed, handed, orderThen, orderTypes}
 use Rattle.nodes.specs.declared.Node.{Node}
 
 -- The node of a side, as the column has it.
@@ -91,6 +92,16 @@ wrapFits g t p result = isSum (typeAt t result) && same (sideType g (typeAt t re
 -- The bits of a sum with this tag and payload.
 abbrev pub wrapBits : Bool → Table → Record → ℕ → List Bool
 wrapBits g t p result = wrapped g (typeAt t result) (recordBits t p)
+
+-- `left` and `right`, over the side: the rungs, the answer and the output.
+abbrev pub sideRungs : Bool → Table → Record → ℕ → List Rung
+sideRungs g t p result = handed t (p ∷ []) (result ∷ []) ++ shaped (wrapFits g t p result)
+
+abbrev pub sideCall : Bool → Table → Record → ℕ → List ℕ → Answer ℕ
+sideCall g t p result out = makes (sideRungs g t p result) (wrapBits g t p result) out
+
+abbrev pub sideOut : Bool → Table → Record → ℕ → List ℕ → List ℕ
+sideOut g t p result out = made (sideRungs g t p result) (wrapBits g t p result) out
 
 -- The result is the product of the two types.
 abbrev pub joinFits : Table → Record → Record → ℕ → Bool

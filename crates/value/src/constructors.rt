@@ -13,6 +13,7 @@ ghost use Rattle.meaning.specs.Tables.{table};
 ghost use Rattle.meaning.specs.Ladder.{record-of};
 ghost use Rattle.meaning.specs.RecordCalls.{unitCall, unitOut, zeroCall, zeroOut, leftCall, leftOut, rightCall, rightOut, productCall, productOut};
 ghost use Rattle.answers.specs.Verdicts.{countOf};
+ghost use Rattle.value.specs.Sides.{sideCall, sideOut};
 
 // The record of unit, which has no bits.
 pub fn unit(
@@ -108,8 +109,8 @@ pub fn zero(
     )
 }
 
-// The left record of a payload, of a sum whose left side is the payload's type.
-pub fn left(
+// The record of a payload on one side of a sum: the left one or the right one.
+fn one_side(
     kinds: &[u8],
     lefts: &[u16],
     rights: &[u16],
@@ -122,10 +123,11 @@ pub fn left(
     offset: usize,
     node: usize,
     result: usize,
+    right: bool,
     out: &mut [u8],
 ) -> Count
-    ensures { λ r. ⌜ countOf r ≡ leftCall (table (now (kinds .entry)) (now (lefts .entry)) (now (rights .entry)) (now (widths .entry)) (now (sizes .entry)) (now (padded .entry)) (now (classes .entry)) count) (record-of (now (bytes .entry)) offset node) result (now (out .entry)) ⌝ }
-    ensures { λ _. ⌜ now (out .exit) ≡ leftOut (table (now (kinds .entry)) (now (lefts .entry)) (now (rights .entry)) (now (widths .entry)) (now (sizes .entry)) (now (padded .entry)) (now (classes .entry)) count) (record-of (now (bytes .entry)) offset node) result (now (out .entry)) ⌝ }
+    ensures { λ r. ⌜ countOf r ≡ sideCall right (table (now (kinds .entry)) (now (lefts .entry)) (now (rights .entry)) (now (widths .entry)) (now (sizes .entry)) (now (padded .entry)) (now (classes .entry)) count) (record-of (now (bytes .entry)) offset node) result (now (out .entry)) ⌝ }
+    ensures { λ _. ⌜ now (out .exit) ≡ sideOut right (table (now (kinds .entry)) (now (lefts .entry)) (now (rights .entry)) (now (widths .entry)) (now (sizes .entry)) (now (padded .entry)) (now (classes .entry)) count) (record-of (now (bytes .entry)) offset node) result (now (out .entry)) ⌝ }
 {
     let judged = gate::record_to(
         kinds,
@@ -145,6 +147,43 @@ pub fn left(
         return Count::Refused(r);
     }
     wrap(
+        kinds,
+        lefts,
+        rights,
+        widths,
+        sizes,
+        padded,
+        classes,
+        count,
+        bytes,
+        offset,
+        node,
+        result,
+        right,
+        out,
+    )
+}
+
+// The left record of a payload, of a sum whose left side is the payload's type.
+pub fn left(
+    kinds: &[u8],
+    lefts: &[u16],
+    rights: &[u16],
+    widths: &[u64],
+    sizes: &[u64],
+    padded: &[u8],
+    classes: &[u16],
+    count: usize,
+    bytes: &[u8],
+    offset: usize,
+    node: usize,
+    result: usize,
+    out: &mut [u8],
+) -> Count
+    ensures { λ r. ⌜ countOf r ≡ leftCall (table (now (kinds .entry)) (now (lefts .entry)) (now (rights .entry)) (now (widths .entry)) (now (sizes .entry)) (now (padded .entry)) (now (classes .entry)) count) (record-of (now (bytes .entry)) offset node) result (now (out .entry)) ⌝ }
+    ensures { λ _. ⌜ now (out .exit) ≡ leftOut (table (now (kinds .entry)) (now (lefts .entry)) (now (rights .entry)) (now (widths .entry)) (now (sizes .entry)) (now (padded .entry)) (now (classes .entry)) count) (record-of (now (bytes .entry)) offset node) result (now (out .entry)) ⌝ }
+{
+    one_side(
         kinds,
         lefts,
         rights,
@@ -181,24 +220,7 @@ pub fn right(
     ensures { λ r. ⌜ countOf r ≡ rightCall (table (now (kinds .entry)) (now (lefts .entry)) (now (rights .entry)) (now (widths .entry)) (now (sizes .entry)) (now (padded .entry)) (now (classes .entry)) count) (record-of (now (bytes .entry)) offset node) result (now (out .entry)) ⌝ }
     ensures { λ _. ⌜ now (out .exit) ≡ rightOut (table (now (kinds .entry)) (now (lefts .entry)) (now (rights .entry)) (now (widths .entry)) (now (sizes .entry)) (now (padded .entry)) (now (classes .entry)) count) (record-of (now (bytes .entry)) offset node) result (now (out .entry)) ⌝ }
 {
-    let judged = gate::record_to(
-        kinds,
-        lefts,
-        rights,
-        widths,
-        sizes,
-        padded,
-        classes,
-        count,
-        bytes,
-        offset,
-        node,
-        result,
-    );
-    if let Done::Refused(r) = judged {
-        return Count::Refused(r);
-    }
-    wrap(
+    one_side(
         kinds,
         lefts,
         rights,

@@ -24,7 +24,7 @@ use Rattle.meaning.proofs.Records.{bits-prod}
 use Rattle.gate.proofs.Passed.{Allowed, handed-passed}
 use Rattle.shapes.proofs.Words.{isWord-word, asWord-word}
 use Rattle.words.proofs.Made.{Accepted, made-accepted, made-length, made-record, shape-accepted}
-use Rattle.words.proofs.Streams.{record-length}
+use Rattle.bits.proofs.Lent.{record-length}
 use Rattle.words.proofs.Views.{sides-of-product, product-seen, left-bits, right-bits}
 
 -- The answer of `as_product`: two places.

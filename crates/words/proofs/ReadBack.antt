@@ -34,7 +34,8 @@ use Rattle.shapes.proofs.Words.{isWord-word, bits-word}
 use Rattle.words.proofs.Made.{Accepted, made-accepted, made-length, made-record, range-accepted}
 use Rattle.words.proofs.Ranges.{eight-times, exponent-bytes}
 use Rattle.words.proofs.Rungs.{range-pass}
-use Rattle.words.proofs.Streams.{padded-whole, rest-length, rest-take, read-fulfils}
+use Rattle.bits.proofs.Lent.{padded-whole, rest-length}
+use Rattle.words.proofs.Streams.{rest-take, read-fulfils}
 
 pub written-bytes : (bs old : List ℕ) → Bytes bs → written (bitsOf bs) old ≡ bs ++ drop (length bs) old
 unfolding written

@@ -1,8 +1,6 @@
--- Records in lent bytes and words read from a stream: how their rungs are answered, and which bits they are.
+-- Words read from a stream: how their rungs are answered, and which bits they are.
 --
---   part-length lent-record     a part of lent bytes, and the own bits of a record as the part has them
---   padded-early padded-whole   padded reading, by what is left of the stream
---   rest-length rest-take       what is left of a stream
+--   rest-take                   the first bits of what is left of a stream
 --   read-refuses read-early read-short read-fulfils     a reader's answers, and its output
 -- Assumes nothing.
 use Prim.Native.Nat.{ℕ, _+_, _-_, _*_, _/_, _%_, _≤_, _<_}
@@ -23,38 +21,6 @@ use Rattle.meaning.specs.CodecCalls.{reads, readOut}
 use Rattle.meaning.proofs.Ladders.{ladder-pass, ladder-stop, ladder-holds, ladder-fails, kept-refused, kept-accepted}
 use Rattle.bits.proofs.OfBytes.{tail, part-lent, length-bitsOf}
 use Rattle.bits.proofs.Runs.{sub-run, length-run}
-
-pub part-length : (k : ℕ) (s : List ℕ) → length (take (length s - k) (drop k s)) ≡ length s - k
-part-length k s = ap length (tail k s) ∙ length-drop k s
-
--- The first w bits of a record of that width, in the bytes from the byte of its offset on.
-pub lent-record : (t : Table) (r : Record) (w : ℕ) → w ≡ bits (typeOf t r)
-    → take w (drop (r .offset % 8) (bitsOf (take (length (r .bytes) - r .offset / 8) (drop (r .offset / 8) (r .bytes))))) ≡ recordBits t r
-unfolding recordBits
-lent-record t r w e = ap₂ take e (part-lent (r .offset) (r .bytes))
-
-pub record-length : (t : Table) (r : Record) → r .offset + bits (typeOf t r) ≤ 8 * length (r .bytes) → length (recordBits t r) ≡ bits (typeOf t r)
-unfolding recordBits
-record-length t r h =
-    length-run (bitsOf (r .bytes)) (r .offset) (bits (typeOf t r)) (omega (arith, length-bitsOf (r .bytes)))
-
-pub padded-early : (t : Ty) (s : List Bool) → length s < bits t → decodePadded t s ≡ early
-unfolding decodePadded
-padded-early t s h = ap (λ (b : Bool). cond b (decoded (take (bits t) s) (bits t)) early) (lt-leb (bits t) (length s) h)
-
-pub padded-whole : (t : Ty) (s : List Bool) → bits t ≤ length s → decodePadded t s ≡ decoded (take (bits t) s) (bits t)
-unfolding decodePadded
-padded-whole t s h = ap (λ (b : Bool). cond b (decoded (take (bits t) s) (bits t)) early) (le-leb (bits t) (length s) h)
-
-pub rest-length : (s : Stream) → s .until ≤ 8 * length (s .bytes) → length (restOf s) ≡ s .until - s .position
-unfolding restOf
-rest-length s h =
-    omega (
-      arith,
-      length-drop (s .position) (take (s .until) (bitsOf (s .bytes))),
-      length-take (s .until) (bitsOf (s .bytes)),
-      length-bitsOf (s .bytes),
-    )
 
 pub rest-take : (s : Stream) (w : ℕ) → s .position + w ≤ s .until → take w (restOf s) ≡ take w (drop (s .position) (bitsOf (s .bytes)))
 unfolding restOf

@@ -5,18 +5,16 @@ use mathlib.Core.Path.{_≡_, ap, sym, _∙_, subst}
 use native.Mathlib.Omega.{arith}
 use Rattle.meaning.specs.Tables.{Table, table}
 use Rattle.meaning.specs.CutCalls.{isCut}
-use Rattle.prune.proofs.Sides.{side-narrow, sum-bits}
-use Rattle.prune.proofs.Walks.{Step, SumStep, ProductStep, given-low, goal-low}
-use Rattle.prune.proofs.Walks.{step-equal, step-unit, step-unlike, accepts-sum, walk-sum, place-sum, falls-sum}
+use Rattle.prune.proofs.Walks.{Step, SumStep, ProductStep}
+use Rattle.prune.proofs.Walks.{step-equal, step-unit, step-unlike, two-sums, accepts-sum, walk-sum, place-sum, falls-sum}
 use Rattle.prune.proofs.Walks.{first-decides, second-decides, walk-first, walk-second, place-second, falls-first, falls-second}
 use borrow.Fn.Kinds.{In}
 use borrow.Fn.PlainCycle.{Measures, is, falls, and}
 use Rattle.prune.proofs.fits.Reads as fits
 use Rattle.prune.proofs.fits.Kinds as fits-kinds
 use Rattle.prune.proofs.+fits.Lts-fits as fits-lts
-use Rattle.bits.proofs.bit_at.Reads as bit-at-reads
 use Rattle.nodes.proofs.node_at.Reads as node-at-reads
-use Rattle.prune.proofs.under_tag.Reads as under-tag-reads
+use Rattle.prune.proofs.taken_side.Reads as taken-side-reads
 use Rattle.prune.proofs.+fits.{statement}
 use Rattle.prune.proofs.+fits.Tie.{close}
 
@@ -33,10 +31,8 @@ abbrev claims : ℕ → fits-lts.Claims
 claims t = (
   node-at-reads.Asked,
   node-at-reads.Learnt,
-  bit-at-reads.Asked,
-  bit-at-reads.Learnt,
-  under-tag-reads.Asked,
-  under-tag-reads.Learnt,
+  taken-side-reads.Asked,
+  taken-side-reads.Learnt,
   fits-below t,
   fits.Post,
 )
@@ -87,50 +83,30 @@ read-sum t c = c .before .before .before .before
 given-sum : (t : ℕ) (c : Sum t) → read-sum t c .node-at2 .result .kind ≡ 1
 given-sum t c = sym (c .before .if3 .left) ∙ c .if4 .taken
 
-fits-bit-at-requires : (t : ℕ) → fits-lts.Need-bit-at-requires (claims t) (fits-at t) fits.Post
-fits-bit-at-requires t c κs =
-    let r = read-sum t c in
-    let s = step t r in
-    let n = sum-bits (of t (start t r)) (start t r .args .node) (r .node-at2 .result) (s .given-read) (given-low s) (given-sum t c) in
-    let i = s .walk .lies .inside in
-    omega arith
-
-fits-under-tag-requires : (t : ℕ) → fits-lts.Need-under-tag-requires (claims t) (fits-at t) fits.Post
-fits-under-tag-requires t c κs =
-    let r = read-sum t (c .before) in
-    let s = step t r in
-    side-narrow (of t (start t r)) (start t r .args .node) (r .node-at2 .result) (s .given-read) (given-low s) (c .bit-at .result)
-    (given-sum t (c .before))
-
-fits-under-tag-requires-2 : (t : ℕ) → fits-lts.Need-under-tag-requires-2 (claims t) (fits-at t) fits.Post
-fits-under-tag-requires-2 t c κs =
-    let r = read-sum t (c .before .before) in
-    let s = step t r in
-    side-narrow (of t (start t r)) (start t r .args .target) (r .before .node-at .result) (s .goal-read) (goal-low s)
-    (c .before .bit-at .result) (c .before .before .if4 .taken)
+fits-taken-side-requires : (t : ℕ) → fits-lts.Need-taken-side-requires (claims t) (fits-at t) fits.Post
+fits-taken-side-requires t c κs = two-sums (step t (read-sum t c)) (c .if4 .taken) (given-sum t c)
 
 -- The payloads of both.
 abbrev Tagged : ℕ → Type 0
-Tagged t = fits-lts.After-under-tag2 (claims t) (fits-at t) fits.Post
+Tagged t = fits-lts.After-taken-side (claims t) (fits-at t) fits.Post
 
 abbrev start-sum : (t : ℕ) → Tagged t → fits-lts.Start (claims t) (fits-at t) fits.Post
-start-sum t c = start t (read-sum t (c .before .before .before))
+start-sum t c = start t (read-sum t (c .before))
 
 sum-step : (t : ℕ) (c : Tagged t)
     → SumStep (of t (start-sum t c)) (start-sum t c .args .src .now) (start-sum t c .args .at) (start-sum t c .args .node)
-    (start-sum t c .args .target) (read-sum t (c .before .before .before) .before .node-at .result)
-    (read-sum t (c .before .before .before) .node-at2 .result) (c .before .before .bit-at .result) (c .before .under-tag .result)
-    (c .under-tag2 .result)
+    (start-sum t c .args .target) (read-sum t (c .before) .before .node-at .result) (read-sum t (c .before) .node-at2 .result)
+    (c .taken-side .result .tag) (c .taken-side .result .given) (c .taken-side .result .goal)
 sum-step t c =
-    let s = c .before .before .before in
+    let s = c .before in
     record {
       step = step t (read-sum t s);
       differ = s .before .before .before .if1 .left;
       goal-sum = s .if4 .taken;
       given-sum = given-sum t s;
-      tag-is = c .before .before .bit-at .ensures;
-      from = c .before .under-tag .ensures;
-      to = c .under-tag2 .ensures;
+      tag-is = c .taken-side .ensures .tag-is;
+      from = c .taken-side .ensures .from;
+      to = c .taken-side .ensures .to;
     }
 
 fits-add-fits : (t : ℕ) → fits-lts.Need-add-fits (claims t) (fits-at t) fits.Post
@@ -139,7 +115,7 @@ fits-add-fits t c = let p = place-sum (sum-step t (c .before)) in record { fits 
 fits-fits-requires : (t : ℕ) → fits-lts.Need-fits-requires (claims t) (fits-at t) fits.Post
 fits-fits-requires t c κs =
     let s = sum-step t (c .before) in
-    (subst (λ (n : ℕ). c .before .under-tag2 .result .node < n) (start-sum t (c .before) .pre .0) (falls-sum s), walk-sum s)
+    (subst (λ (n : ℕ). c .before .taken-side .result .goal .node < n) (start-sum t (c .before) .pre .0) (falls-sum s), walk-sum s)
 
 fits-returns-4 : (t : ℕ) → fits-lts.Need-returns-4 (claims t) (fits-at t) fits.Post
 fits-returns-4 t c = c .fits2 .ensures ∙ sym (accepts-sum (sum-step t (c .before .before)))
@@ -203,9 +179,7 @@ pub +fits-spec : {M : Type 1} → statement M
     (fits-returns t)
     (fits-returns-2 t)
     (fits-returns-3 t)
-    (fits-bit-at-requires t)
-    (fits-under-tag-requires t)
-    (fits-under-tag-requires-2 t)
+    (fits-taken-side-requires t)
     (fits-add-fits t)
     (fits-fits-requires t)
     (fits-returns-4 t)

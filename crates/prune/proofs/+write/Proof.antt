@@ -5,9 +5,8 @@ use mathlib.Core.Path.{_≡_, sym, _∙_, subst}
 use native.Mathlib.Omega.{arith}
 use lib.ListN.{length}
 use Rattle.meaning.specs.Tables.{Table, table}
-use Rattle.prune.proofs.Sides.{side-narrow, sum-bits}
-use Rattle.prune.proofs.Walks.{Step, SumStep, ProductStep, given-low, goal-low, equal-width, equal-bits, step-like}
-use Rattle.prune.proofs.Walks.{accepts-sum, walk-sum, place-sum, falls-sum, before-sum, spans-sum}
+use Rattle.prune.proofs.Walks.{Step, SumStep, ProductStep, equal-width, equal-bits, step-like}
+use Rattle.prune.proofs.Walks.{two-sums, accepts-sum, walk-sum, place-sum, falls-sum, before-sum, spans-sum}
 use Rattle.prune.proofs.Walks.{walk-first, walk-second, place-second, falls-first, falls-second, spans-product}
 use Rattle.prune.proofs.Writes.{written-equal, written-unit, lies-sum, written-sum}
 use Rattle.prune.proofs.Writes.{lies-first, lies-second, cuts-first, cuts-second, written-product}
@@ -16,12 +15,11 @@ use borrow.Fn.PlainCycle.{Measures, is, falls, and}
 use Rattle.prune.proofs.write.Reads as write
 use Rattle.prune.proofs.write.Kinds as write-kinds
 use Rattle.prune.proofs.+write.Lts-write as write-lts
-use Rattle.bits.proofs.bit_at.Reads as bit-at-reads
 use Rattle.bits.proofs.clear_bits.Reads as clear-bits-reads
 use Rattle.bits.proofs.copy_bits.Reads as copy-bits-reads
 use Rattle.bits.proofs.put_bit.Reads as put-bit-reads
 use Rattle.nodes.proofs.node_at.Reads as node-at-reads
-use Rattle.prune.proofs.under_tag.Reads as under-tag-reads
+use Rattle.prune.proofs.taken_side.Reads as taken-side-reads
 use Rattle.prune.proofs.+write.{statement}
 use Rattle.prune.proofs.+write.Tie.{close}
 
@@ -40,10 +38,8 @@ claims t = (
   node-at-reads.Learnt,
   copy-bits-reads.Asked,
   copy-bits-reads.Learnt,
-  bit-at-reads.Asked,
-  bit-at-reads.Learnt,
-  under-tag-reads.Asked,
-  under-tag-reads.Learnt,
+  taken-side-reads.Asked,
+  taken-side-reads.Learnt,
   put-bit-reads.Asked,
   put-bit-reads.Learnt,
   clear-bits-reads.Asked,
@@ -118,50 +114,30 @@ given-sum : (t : ℕ) (c : Sum t) → read-sum t c .node-at2 .result .kind ≡ 1
 given-sum t c =
     sym (step-like (step t (read-sum t c)) (c .before .if2 .left) (start t (read-sum t c) .pre .1 .1 .0)) ∙ c .if3 .taken
 
-write-bit-at-requires : (t : ℕ) → write-lts.Need-bit-at-requires (claims t) (write-at t) write.Post
-write-bit-at-requires t c κs =
-    let r = read-sum t c in
-    let s = step t r in
-    let n = sum-bits (of t (start t r)) (start t r .args .node) (r .node-at2 .result) (s .given-read) (given-low s) (given-sum t c) in
-    let i = s .walk .lies .inside in
-    omega arith
-
-write-under-tag-requires : (t : ℕ) → write-lts.Need-under-tag-requires (claims t) (write-at t) write.Post
-write-under-tag-requires t c κs =
-    let r = read-sum t (c .before) in
-    let s = step t r in
-    side-narrow (of t (start t r)) (start t r .args .node) (r .node-at2 .result) (s .given-read) (given-low s) (c .bit-at .result)
-    (given-sum t (c .before))
-
-write-under-tag-requires-2 : (t : ℕ) → write-lts.Need-under-tag-requires-2 (claims t) (write-at t) write.Post
-write-under-tag-requires-2 t c κs =
-    let r = read-sum t (c .before .before) in
-    let s = step t r in
-    side-narrow (of t (start t r)) (start t r .args .target) (r .before .node-at .result) (s .goal-read) (goal-low s)
-    (c .before .bit-at .result) (c .before .before .if3 .taken)
+write-taken-side-requires : (t : ℕ) → write-lts.Need-taken-side-requires (claims t) (write-at t) write.Post
+write-taken-side-requires t c κs = two-sums (step t (read-sum t c)) (c .if3 .taken) (given-sum t c)
 
 -- The payloads of both.
 abbrev Tagged : ℕ → Type 0
-Tagged t = write-lts.After-under-tag2 (claims t) (write-at t) write.Post
+Tagged t = write-lts.After-taken-side (claims t) (write-at t) write.Post
 
 abbrev start-sum : (t : ℕ) → Tagged t → write-lts.Start (claims t) (write-at t) write.Post
-start-sum t c = start t (read-sum t (c .before .before .before))
+start-sum t c = start t (read-sum t (c .before))
 
 sum-step : (t : ℕ) (c : Tagged t)
     → SumStep (of t (start-sum t c)) (start-sum t c .args .src .now) (start-sum t c .args .at) (start-sum t c .args .node)
-    (start-sum t c .args .target) (read-sum t (c .before .before .before) .before .node-at .result)
-    (read-sum t (c .before .before .before) .node-at2 .result) (c .before .before .bit-at .result) (c .before .under-tag .result)
-    (c .under-tag2 .result)
+    (start-sum t c .args .target) (read-sum t (c .before) .before .node-at .result) (read-sum t (c .before) .node-at2 .result)
+    (c .taken-side .result .tag) (c .taken-side .result .given) (c .taken-side .result .goal)
 sum-step t c =
-    let s = c .before .before .before in
+    let s = c .before in
     record {
       step = step t (read-sum t s);
       differ = s .before .before .if1 .left;
       goal-sum = s .if3 .taken;
       given-sum = given-sum t s;
-      tag-is = c .before .before .bit-at .ensures;
-      from = c .before .under-tag .ensures;
-      to = c .under-tag2 .ensures;
+      tag-is = c .taken-side .ensures .tag-is;
+      from = c .taken-side .ensures .from;
+      to = c .taken-side .ensures .to;
     }
 
 write-put-bit-requires : (t : ℕ) → write-lts.Need-put-bit-requires (claims t) (write-at t) write.Post
@@ -220,7 +196,7 @@ write-write-requires t c κs =
     let e = tagged t d in
     let s = sum-step t e in
     let a = start-sum t e in (
-      subst (λ (n : ℕ). e .under-tag2 .result .node < n) (a .pre .0) (falls-sum s),
+      subst (λ (n : ℕ). e .taken-side .result .goal .node < n) (a .pre .0) (falls-sum s),
       (
         walk-sum s,
         (
@@ -330,9 +306,7 @@ pub +write-spec : {M : Type 1} → statement M
     (write-same-length t)
     (write-returns t)
     (write-returns-2 t)
-    (write-bit-at-requires t)
-    (write-under-tag-requires t)
-    (write-under-tag-requires-2 t)
+    (write-taken-side-requires t)
     (write-put-bit-requires t)
     (write-add-clear-bits t)
     (write-sub-clear-bits t)

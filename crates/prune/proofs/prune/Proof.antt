@@ -19,7 +19,8 @@ use Rattle.bits.proofs.OfBytes.{are-bytes}
 use Rattle.bits.proofs.Packed.{finished}
 use Rattle.prune.specs.Walks.{Walk}
 use Rattle.prune.proofs.Answers.{Passes, prune-stops, prune-misshapen, prune-short, prune-done, prune-refused, prune-accepted}
-use Rattle.prune.proofs.Answers.{lent, lent-cut, starts, walk-lent, cut-length, column-width}
+use Rattle.bits.proofs.Lent.{lent}
+use Rattle.prune.proofs.Answers.{lent-cut, starts, walk-lent, cut-length, column-width}
 use Rattle.prune.proofs.prune.Statement.{statement}
 use Rattle.prune.proofs.prune.Tie as tie
 

@@ -22,7 +22,8 @@ use Rattle.gate.proofs.Passed.{Streamed, stream-passed}
 use Rattle.shapes.proofs.Words.{isWord-word, bits-word}
 use Rattle.shapes.proofs.Widths.{word-widths}
 use Rattle.words.proofs.Rungs.{range-stop, range-missed, range-shape, range-pass}
-use Rattle.words.proofs.Streams.{part-length, padded-early, padded-whole, rest-length, rest-take, read-refuses, read-early, read-short, read-fulfils}
+use Rattle.bits.proofs.Lent.{lent-length, padded-early, padded-whole, rest-length}
+use Rattle.words.proofs.Streams.{rest-take, read-refuses, read-early, read-short, read-fulfils}
 use Rattle.words.proofs.joins.word_from_bits.Statement.{statement}
 use Rattle.words.proofs.joins.word_from_bits.Tie as tie
 
@@ -188,7 +189,7 @@ write-run-requires c κs =
     let m = narrow (c .before .before .before .before) in
     let r = c .before .before .before .if3 .left in
     let o = c .before .before .if4 .left in
-    let l = part-length (s .args .position / 8) (s .args .bytes .now) in
+    let l = lent-length (s .args .bytes .now) (s .args .position) in
     (record { inside = omega arith; counted = omega arith }, record { inside = omega arith; counted = omega arith })
 
 add-t27 : tie.Need-add-t27

@@ -25,7 +25,7 @@ use Rattle.shapes.proofs.Shapes.{and-none}
 use Rattle.shapes.proofs.Words.{isWord-word, asWord-word, bits-word}
 use Rattle.shapes.proofs.Widths.{word-widths}
 use Rattle.words.proofs.Rungs.{refuses, short, fulfils, shape-wrong, shape-right}
-use Rattle.words.proofs.Streams.{part-length, lent-record, record-length}
+use Rattle.bits.proofs.Lent.{lent-length, lent-record, record-length}
 use Rattle.words.proofs.joins.word_product.Statement.{statement}
 use Rattle.words.proofs.joins.word_product.Tie as tie
 
@@ -247,8 +247,8 @@ write-pair-requires c κs =
     let m = narrow (c .before .before .before .before) in
     let i = first-in (c .before .before .before .before) in
     let j = second-in (c .before .before .before .before) in
-    let a = part-length (s .args .a-offset / 8) (s .args .a-bytes .now) in
-    let b = part-length (s .args .b-offset / 8) (s .args .b-bytes .now) in
+    let a = lent-length (s .args .a-bytes .now) (s .args .a-offset) in
+    let b = lent-length (s .args .b-bytes .now) (s .args .b-offset) in
     let r = c .before .before .before .if4 .left in (
       record { inside = omega arith; counted = omega arith },
       (
