@@ -1,17 +1,18 @@
 //! Compact and padded reading and writing, and cuts.
 
 use crate::measure::{head, line, Effort};
-use crate::subjects::{padded, small, word_19, Subject};
+use crate::subjects::{readings, small, tags, word_19, Subject};
 use oracle::{BitCollector, BitIter, Value};
 use quelomavunt::{bytes_for, Stream};
 use std::hint::black_box;
 
 pub fn run(effort: Effort) {
-    for subject in [word_19(), padded(), small()] {
+    for subject in [word_19(), readings(), tags(), small()] {
         head(&format!(
-            "{}: {} bits, table of {} nodes checked in every call",
+            "{}: {} bits, {} tree nodes, table of {} nodes checked in every call",
             subject.name,
             subject.width(),
+            subject.tree_nodes,
             subject.table.len()
         ));
         compare(&subject);

@@ -11,6 +11,7 @@ use std::sync::Arc;
 /// A type, a target for cuts, and a record.
 pub struct Subject {
     pub name: &'static str,
+    pub tree_nodes: u64,
     pub table: Table,
     pub node: usize,
     pub target: usize,
@@ -33,6 +34,7 @@ impl Subject {
         let value = Value::from_padded_bits(&mut bits, &types[node]).expect("enough bits");
         Subject {
             name,
+            tree_nodes: plain.sizes[node],
             table,
             node,
             target,
@@ -64,8 +66,9 @@ pub fn word_19() -> Subject {
     Subject::new("word 19", &maker, node, target, 1)
 }
 
-/// A padded type of 147,455 tree nodes: 8,192 times 1 + 2 × (2 + 2^2). The cut works inside each of them.
-pub fn padded() -> Subject {
+/// A padded type that is mostly tags, the worst for a walk: 8,192 times 1 + 2 × (2 + 2^2), 147,455 tree nodes. The cut
+/// works inside each of them.
+pub fn tags() -> Subject {
     let mut maker = TableMaker::new();
     let (bit, pair) = (maker.word(0), maker.word(1));
     let choice = maker.shared(1, bit, pair);
@@ -78,7 +81,26 @@ pub fn padded() -> Subject {
         node = maker.shared(2, node, node);
         target = maker.shared(2, target, target);
     }
-    Subject::new("padded, 147,455 tree nodes", &maker, node, target, 2)
+    Subject::new("padded, mostly tags", &maker, node, target, 2)
+}
+
+/// A padded type as a feed has it: 1,024 times (1 + 2^32) × ((2 + 2^16) × 2^8), 235,519 tree nodes. The cut takes the
+/// last byte off each of them, and the payload of the second tag if it is a left one.
+pub fn readings() -> Subject {
+    let mut maker = TableMaker::new();
+    let (bit, w8, w16, w32) = (maker.word(0), maker.word(3), maker.word(4), maker.word(5));
+    let reading = maker.shared(1, 0, w32);
+    let place = maker.shared(1, bit, w16);
+    let placed = maker.shared(2, place, w8);
+    let mut node = maker.shared(2, reading, placed);
+    let cut_place = maker.shared(1, 0, w16);
+    let cut_placed = maker.shared(2, cut_place, 0);
+    let mut target = maker.shared(2, reading, cut_placed);
+    for _ in 0..10 {
+        node = maker.shared(2, node, node);
+        target = maker.shared(2, target, target);
+    }
+    Subject::new("padded, readings", &maker, node, target, 4)
 }
 
 /// A small record of 196 bits: (2^64 × (1 + 2^32)) × ((2 + 2^16) × (1 + 2^64)) × 2^16 and a bit.
@@ -99,7 +121,7 @@ pub fn small() -> Subject {
     let cut_end = maker.shared(2, w16, 0);
     let cut_tail = maker.shared(2, cut_right, cut_end);
     let target = maker.shared(2, cut_left, cut_tail);
-    Subject::new("small, 196 bits", &maker, node, target, 3)
+    Subject::new("small", &maker, node, target, 3)
 }
 
 /// Four words of 61,440 bytes together, and a left side of 8 to 15 bits for each offset: a product of the two is a
