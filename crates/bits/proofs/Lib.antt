@@ -1,8 +1,10 @@
 -- The laws of bits and bytes, for this crate and those above it.
+pub mod Comparing
 pub mod Lent
 pub mod Numbers
 pub mod OfBytes
 pub mod Packed
+pub mod Parts
 pub mod Pasted
 pub mod Runs
-pub mod Steps
+pub mod Stores

@@ -1,26 +1,27 @@
 -- Laws of `toBits` and `value`, the bits of one number, over the width k.
 --
 --   odd-mod bit-odd odd-bit           the lowest bit as a number and back
---   length-toBits getD-toBits         how many bits there are, and which
+--   length-toBits                     how many bits there are
 --   toBits-add                        the upper m bits, then the lower k
---   toBits-mod                        k bits depend on the number modulo 2^k alone
+--   toBits-low toBits-mod             k bits depend on the number modulo 2^k alone
 --   toBits-put                        one bit set
+--   toBits-zero                       the bits of 0
 --   value-below                       k bits make a number below 2^k
 --   value-toBits toBits-value         the two undo one another
 --   toBits-injective
 use mathlib.Core.Path.{_≡_, refl, sym, ap, ap₂, _∙_, subst}
 use mathlib.Core.Bool.{Bool, true, false}
 use mathlib.Core.List.{List, [], _∷_, _++_}
-use Prim.Native.Nat.{ℕ, zero, suc, _+_, _-_, _*_, _/_, _%_, _^_, _<_}
-use native.Mathlib.Nat.{zero-add, suc-add, add-suc, add-comm, mod-lt, mod-eq-of-lt, zero-lt-suc, zero-mul, one-mul, two-pow-succ}
+use Prim.Native.Nat.{ℕ, zero, suc, _+_, _*_, _/_, _%_, _^_, _<_}
+use native.Mathlib.Nat.{zero-add, suc-add, add-suc, add-comm, mod-lt, mod-eq-of-lt, zero-lt-suc, zero-div, zero-mul, one-mul, two-pow-succ}
 use native.Mathlib.Omega.{arith}
 use native.Mathlib.Numerals.{add-one, one-add}
-use lib.ListN.{length, getD, set}
+use lib.ListN.{length, set}
 use lib.Seq.{set-at}
 use lib.Pow.{pow-pos, pow-add, shr-shr, field, mod-mod-pow, mod-pow-add, shr-lt, high, low, split}
 use lib.Arith.{digits-lt}
 use lib.Dec.{eqb}
-use Rattle.meaning.specs.Bits.{odd, toBits, bit, value}
+use Rattle.meaning.specs.Bits.{odd, toBits, zeros, bit, value}
 
 -- The lowest bit depends on the number modulo 2 alone.
 odd-same : (a b : ℕ) → a % 2 ≡ b % 2 → odd a ≡ odd b
@@ -49,14 +50,6 @@ unfolding toBits
 length-toBits zero n = refl
 length-toBits (suc k) n = ap suc (length-toBits k n)
 
-pub getD-toBits : (k n i : ℕ) → i < k → getD (toBits k n) i false ≡ odd (n / 2 ^ (k - 1 - i))
-unfolding toBits
-getD-toBits zero n i h = absurd (omega arith)
-getD-toBits (suc k) n zero h = let e : k ≡ suc k - 1 - 0 = omega arith in ap (λ (j : ℕ). odd (n / 2 ^ j)) e
-getD-toBits (suc k) n (suc i) h =
-    let e : k - 1 - i ≡ suc k - 1 - suc i = omega arith in
-    getD-toBits k n i (omega arith) ∙ ap (λ (j : ℕ). odd (n / 2 ^ j)) e
-
 pub toBits-add : (m k n : ℕ) → toBits (m + k) n ≡ toBits m (n / 2 ^ k) ++ toBits k n
 unfolding toBits
 toBits-add zero k n = ap (λ (j : ℕ). toBits j n) (zero-add k)
@@ -65,7 +58,7 @@ toBits-add (suc m) k n =
     ∙ ap₂ (λ (x : ℕ) (r : List Bool). odd x ∷ r) (ap (λ (j : ℕ). n / 2 ^ j) (add-comm m k) ∙ sym (shr-shr n k m)) (toBits-add m k n)
 
 -- The k low bits do not change when higher ones are cut off.
-toBits-low : (k j n : ℕ) → toBits k (n % 2 ^ (j + k)) ≡ toBits k n
+pub toBits-low : (k j n : ℕ) → toBits k (n % 2 ^ (j + k)) ≡ toBits k n
 unfolding toBits
 toBits-low zero j n = refl
 toBits-low (suc k) j n =
@@ -132,6 +125,12 @@ put-below m k n b h =
     even-below : (c : Bool) (x t : ℕ) → x < t + t → 2 * (x / 2) + bit c < t + t
     even-below true x t l = omega arith
     even-below false x t l = omega arith
+
+-- No bit of 0 is set.
+pub toBits-zero : (k : ℕ) → toBits k 0 ≡ zeros k
+unfolding toBits odd
+toBits-zero zero = refl
+toBits-zero (suc k) = ap₂ (λ (b : Bool) (r : List Bool). b ∷ r) (ap odd (zero-div (2 ^ k))) (toBits-zero k)
 
 pub value-below : (k : ℕ) (v : List Bool) → value k v < 2 ^ k
 unfolding value

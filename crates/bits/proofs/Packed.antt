@@ -8,8 +8,8 @@
 use mathlib.Core.Path.{_≡_, refl, sym, ap, ap₂, _∙_}
 use mathlib.Core.Bool.{Bool, false}
 use mathlib.Core.List.{List, [], _∷_, _++_, append-assoc, append-nil}
-use Prim.Native.Nat.{ℕ, zero, suc, _+_, _-_, _*_, _^_, _≤_, _<_, zero-le}
-use native.Mathlib.Nat.{zero-add, sub-zero, zero-sub, suc-sub-suc, zero-div, le-of-suc-le-suc}
+use Prim.Native.Nat.{ℕ, zero, suc, _+_, _-_, _*_, _≤_, _<_, zero-le}
+use native.Mathlib.Nat.{zero-add, sub-zero, zero-sub, suc-sub-suc, le-of-suc-le-suc}
 use native.Mathlib.Decide.{decLe}
 use native.Mathlib.Omega.{arith}
 use lib.ListN.{length, getD, take, drop, length-append, length-drop, drop-of-length-le, take-append-drop}
@@ -18,15 +18,9 @@ use lib.Pow.{high}
 use lib.Seq.{paste, take-all}
 use Rattle.meaning.specs.Bits.{odd, toBits, bitsOf, zeros, room, bit, value, packTo, pack, written}
 use Rattle.meaning.specs.Checked.{Bytes}
-use Rattle.bits.proofs.Numbers.{toBits-lower, value-below, odd-bit}
+use Rattle.bits.proofs.Numbers.{toBits-lower, toBits-zero, value-below, odd-bit}
 use Rattle.bits.proofs.OfBytes.{length-bitsOf, bitsOf-append, drop-bitsOf, bitsOf-injective, bytes-append, bytes-drop}
 use Rattle.bits.proofs.Pasted.{paste-front, paste-append}
-
--- No bits at all make 0.
-toBits-zero : (k : ℕ) → toBits k 0 ≡ zeros k
-unfolding toBits odd
-toBits-zero zero = refl
-toBits-zero (suc k) = ap₂ (λ (b : Bool) (r : List Bool). b ∷ r) (ap odd (zero-div (2 ^ k))) (toBits-zero k)
 
 pub toBits-padded : (k : ℕ) (v : List Bool) → toBits k (value k v) ≡ take k v ++ zeros (k - length v)
 unfolding value toBits odd

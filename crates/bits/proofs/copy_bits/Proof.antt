@@ -1,88 +1,136 @@
--- `bits::copy_bits` meets its contract. The loop's invariant: the first i bits are pasted, and the rest is as it was. Assumes nothing.
-use mathlib.Core.Path.{refl, _≡_, sym, ap, _∙_}
-use mathlib.Core.Bool.{false}
-use Prim.Native.Nat.{_<_, _-_, _≤_}
+-- `bits::copy_bits` meets its contract: the bits up to a byte's border, the whole bytes and what is left, each after the one before. Assumes
+-- nothing.
+use mathlib.Core.Path.{_≡_, refl, sym, ap, _∙_}
+use Prim.Native.Nat.{ℕ, _+_, _-_, _*_, _/_, _%_}
 use native.Mathlib.Omega.{arith}
-use lib.ListN.{length-drop, length, drop}
-use lib.Seq.{getD-drop, paste, paste-zero}
+use lib.ListN.{take, drop, length-drop}
+use lib.Seq.{paste, drop-drop}
 use borrow.Author.Needs.{needs}
 use Rattle.meaning.specs.Bits.{bitsOf}
 use Rattle.bits.proofs.OfBytes.{length-bitsOf}
-use Rattle.bits.proofs.Steps.{paste-step}
+use Rattle.bits.proofs.Pasted.{paste-on}
 use Rattle.bits.proofs.copy_bits.Statement.{statement}
 use Rattle.bits.proofs.copy_bits.Tie as tie
 
-abbrev Inv-loop : tie.InvT-loop
-Inv-loop src from dst₀ at n copied₀ dst copied =
-    (copied ≤ n)
-    × (length dst ≡ length dst₀)
-    × (bitsOf dst ≡ paste (bitsOf dst₀) at (drop from (bitsOf src)) copied)
+-- All but the bits after the last whole byte.
+most : (c : tie.After-slice-known4) →
+    let a = c .before .before .before .before .before .before .before .before .before .before .before .args in
+    let head : ℕ = 8 - a .at % 8 in
+    bitsOf (c .before .before .copy-whole .last .1 .1 .0)
+    ≡ paste (bitsOf (a .dst .now)) (a .at) (drop (a .from) (bitsOf (a .src .now))) (head + 8 * ((a .n - head) / 8))
+most c =
+    let a = c .before .before .before .before .before .before .before .before .before .before .before .args in
+    let head : ℕ = 8 - a .at % 8 in
+    let bytes : ℕ = (a .n - head) / 8 in
+    let bits = drop (a .from) (bitsOf (a .src .now)) in
+    paste-on (bitsOf (a .dst .now)) bits (drop (a .from + head) (bitsOf (a .src .now)))
+    (bitsOf (c .before .before .before .before .before .before .copy-some2 .last .1 .1 .0))
+    (bitsOf (c .before .before .copy-whole .last .1 .1 .0))
+    (a .at) head (8 * (a .at / 8 + 1)) (8 * bytes)
+    (omega (arith, length-bitsOf (a .dst .now)))
+    (omega (arith, length-bitsOf (a .src .now), length-drop (a .from) (bitsOf (a .src .now))))
+    (c .before .before .before .before .before .before .copy-some2 .ensures)
+    (c .before .before .copy-whole .ensures)
+    (omega arith)
+    (ap (take (8 * bytes)) (sym (drop-drop head (a .from) (bitsOf (a .src .now)))))
 
-abbrev μ-loop : tie.MeasureT-loop
-μ-loop src from dst₀ at n copied₀ dst copied = n - copied
+sub-head : tie.Need-sub-head
+sub-head c = search needs
 
-loop-holds : tie.Need-loop-holds Inv-loop μ-loop
-loop-holds c =
-    let a = c .before .before .args in
-    (search needs, refl, paste-zero (bitsOf (a .dst .now)) (a .at) (drop (a .from) (bitsOf (a .src .now))))
+copy-some-requires : tie.Need-copy-some-requires
+copy-some-requires c κs = search needs
 
-add-put-bit : tie.Need-add-put-bit Inv-loop μ-loop
-add-put-bit c = search needs
-
-add-bit-at : tie.Need-add-bit-at Inv-loop μ-loop
-add-bit-at c = search needs
-
-bit-at-requires : tie.Need-bit-at-requires Inv-loop μ-loop
-bit-at-requires c κs = search needs
-
-put-bit-requires : tie.Need-put-bit-requires Inv-loop μ-loop
-put-bit-requires c κs = search needs
-
-add-copied : tie.Need-add-copied Inv-loop μ-loop
-add-copied c = search needs
-
-loop-less : tie.Need-loop-less Inv-loop μ-loop
-loop-less c = search needs
-
-loop-again : tie.Need-loop-again Inv-loop μ-loop
-loop-again c =
-    let a = c .before .before .before .before .before .before .before .before .before .args in
-    let l = c .before .before .before .before .before .before .loop in
-    let turn : l .copied < a .n = c .before .before .before .before .before .loop-test .taken in
-    let put = c .before .before .put-bit in (
-      search needs,
-      put .kept .0 ∙ l .inv .1,
-      put .ensures
-          ∙ paste-step (bitsOf (a .dst .now)) (drop (a .from) (bitsOf (a .src .now))) (bitsOf (l .dst)) (a .at) (l .copied) _
-          (omega (arith, length-bitsOf (a .dst .now)))
-          (omega (arith, length-bitsOf (a .src .now), length-drop (a .from) (bitsOf (a .src .now))))
-          (l .inv .2)
-          (c .before .before .before .bit-at .ensures ∙ sym (getD-drop (a .from) (bitsOf (a .src .now)) (l .copied) false)),
-    )
-
-same-length : tie.Need-same-length Inv-loop μ-loop
+same-length : tie.Need-same-length
 same-length c = search needs
 
-returns : tie.Need-returns Inv-loop μ-loop
-returns c =
-    let a = c .before .before .before .before .args in
-    let l = c .before .loop in
-    let end : l .copied ≡ a .n = omega arith in
-    l .inv .2 ∙ ap (paste (bitsOf (a .dst .now)) (a .at) (drop (a .from) (bitsOf (a .src .now)))) end
+returns : tie.Need-returns
+returns c = search needs
+
+copy-some-requires-2 : tie.Need-copy-some-requires-2
+copy-some-requires-2 c κs = search needs
+
+sub-bytes : tie.Need-sub-bytes
+sub-bytes c = search needs
+
+add-copy-whole : tie.Need-add-copy-whole
+add-copy-whole c = search needs
+
+add-copy-whole-2 : tie.Need-add-copy-whole-2
+add-copy-whole-2 c = search needs
+
+copy-whole-requires : tie.Need-copy-whole-requires
+copy-whole-requires c κs = search needs
+
+mul-done : tie.Need-mul-done
+mul-done c = search needs
+
+add-done : tie.Need-add-done
+add-done c = search needs
+
+add-copy-some : tie.Need-add-copy-some
+add-copy-some c = search needs
+
+add-copy-some-2 : tie.Need-add-copy-some-2
+add-copy-some-2 c = search needs
+
+sub-copy-some : tie.Need-sub-copy-some
+sub-copy-some c = search needs
+
+copy-some-requires-3 : tie.Need-copy-some-requires-3
+copy-some-requires-3 c κs = search needs
+
+same-length-2 : tie.Need-same-length-2
+same-length-2 c = search needs
+
+returns-2 : tie.Need-returns-2
+returns-2 c =
+    let a = c .before .before .before .before .before .before .before .before .before .before .before .before .before .before .before .before .args in
+    let head : ℕ = 8 - a .at % 8 in
+    let done : ℕ = head + 8 * ((a .n - head) / 8) in
+    let bits = drop (a .from) (bitsOf (a .src .now)) in
+    let all : done + (a .n - done) ≡ a .n = omega arith in
+    paste-on (bitsOf (a .dst .now)) bits (drop (a .from + done) (bitsOf (a .src .now)))
+    (bitsOf (c .before .before .before .before .before .before .before .copy-whole .last .1 .1 .0))
+    (bitsOf (c .before .before .copy-some3 .last .1 .1 .0))
+    (a .at) done (a .at + done) (a .n - done)
+    (omega (arith, length-bitsOf (a .dst .now)))
+    (omega (arith, length-bitsOf (a .src .now), length-drop (a .from) (bitsOf (a .src .now))))
+    (most (c .before .before .before .before .before))
+    (c .before .before .copy-some3 .ensures)
+    refl
+    (ap (take (a .n - done)) (sym (drop-drop done (a .from) (bitsOf (a .src .now)))))
+    ∙ ap (paste (bitsOf (a .dst .now)) (a .at) bits) all
+
+same-length-3 : tie.Need-same-length-3
+same-length-3 c = search needs
+
+returns-3 : tie.Need-returns-3
+returns-3 c =
+    let a = c .before .before .before .before .before .before .before .before .before .before .before .before .args in
+    let head : ℕ = 8 - a .at % 8 in
+    let all : head + 8 * ((a .n - head) / 8) ≡ a .n = omega arith in
+    most (c .before) ∙ ap (paste (bitsOf (a .dst .now)) (a .at) (drop (a .from) (bitsOf (a .src .now)))) all
 
 pub copy-bits-spec : {M : Type 1} → statement M
 copy-bits-spec =
     tie.close
     (tie.spec
-    Inv-loop
-    μ-loop
-    loop-holds
-    add-put-bit
-    add-bit-at
-    bit-at-requires
-    put-bit-requires
-    add-copied
-    loop-less
-    loop-again
+    sub-head
+    copy-some-requires
     same-length
-    returns)
+    returns
+    copy-some-requires-2
+    sub-bytes
+    add-copy-whole
+    add-copy-whole-2
+    copy-whole-requires
+    mul-done
+    add-done
+    add-copy-some
+    add-copy-some-2
+    sub-copy-some
+    copy-some-requires-3
+    same-length-2
+    returns-2
+    same-length-3
+    returns-3)

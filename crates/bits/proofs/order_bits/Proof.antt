@@ -1,71 +1,85 @@
--- `bits::order_bits` meets its contract. The loop's invariant: the runs' order is that of what is left of them. Assumes nothing.
-use mathlib.Core.Path.{_≡_, sym, ap, ap₂, _∙_}
-use Prim.Native.Nat.{_-_, _≤_, _<_}
+-- `bits::order_bits` meets its contract. The loop's invariant: the bits passed are alike. Assumes nothing.
+use mathlib.Core.Path.{_≡_, sym, ap, _∙_, subst}
+use Prim.Native.Nat.{_-_, Ordering·lt, Ordering·gt}
 use native.Mathlib.Omega.{arith}
-use lib.ListN.{take, drop}
 use borrow.Author.Needs.{needs}
-use Rattle.meaning.specs.Bits.{bitsOf}
-use Rattle.meaning.specs.Records.{orderBits}
+use Rattle.meaning.specs.Bits.{toBits, bitsOf}
+use Rattle.bits.specs.Alike.{Alike}
 use Rattle.bits.specs.Runs.{orderNo}
-use Rattle.bits.proofs.OfBytes.{length-bitsOf}
-use Rattle.bits.proofs.Steps.{rest, rest-all, rest-none, order-agree, order-above, order-below}
+use Rattle.bits.proofs.Comparing.{alike-none, alike-more, order-alike, order-decided}
 use Rattle.bits.proofs.order_bits.Statement.{statement}
 use Rattle.bits.proofs.order_bits.Tie as tie
 
 abbrev Inv-loop : tie.InvT-loop
-Inv-loop a from b at n same₀ same =
-    (same ≤ n)
-    × (orderBits (take n (drop from (bitsOf a))) (take n (drop at (bitsOf b))) ≡ orderBits (rest (bitsOf a) from n same) (rest (bitsOf b) at n same))
+Inv-loop a from b at n large₀ same₀ same = Alike (bitsOf a) from (bitsOf b) at n same
 
 abbrev μ-loop : tie.MeasureT-loop
-μ-loop a from b at n same₀ same = n - same
+μ-loop a from b at n large₀ same₀ same = n - same
+
+alike-blocks-requires : tie.Need-alike-blocks-requires Inv-loop μ-loop
+alike-blocks-requires c κs =
+    let a = c .before .before .args in
+    (search needs, (search needs, (alike-none (bitsOf (a .a .now)) (a .from) (bitsOf (a .b .now)) (a .at) (a .n), search needs)))
+
+alike-blocks-requires-2 : tie.Need-alike-blocks-requires-2 Inv-loop μ-loop
+alike-blocks-requires-2 c κs = (search needs, (search needs, (c .alike-blocks .ensures, search needs)))
 
 loop-holds : tie.Need-loop-holds Inv-loop μ-loop
-loop-holds c =
-    let a = c .before .before .args in
-    (search needs, ap₂ orderBits (rest-all (bitsOf (a .a .now)) (a .from) (a .n)) (rest-all (bitsOf (a .b .now)) (a .at) (a .n)))
+loop-holds c = c .alike-blocks2 .ensures
 
-add-bit-at : tie.Need-add-bit-at Inv-loop μ-loop
-add-bit-at c = search needs
+sub-at-most-eight : tie.Need-sub-at-most-eight Inv-loop μ-loop
+sub-at-most-eight c = search needs
 
-bit-at-requires : tie.Need-bit-at-requires Inv-loop μ-loop
-bit-at-requires c κs = search needs
+at-most-eight-requires : tie.Need-at-most-eight-requires Inv-loop μ-loop
+at-most-eight-requires c κs = search needs
 
-add-bit-at-2 : tie.Need-add-bit-at-2 Inv-loop μ-loop
-add-bit-at-2 c = search needs
+add-bits-at : tie.Need-add-bits-at Inv-loop μ-loop
+add-bits-at c = search needs
 
-bit-at-requires-2 : tie.Need-bit-at-requires-2 Inv-loop μ-loop
-bit-at-requires-2 c κs = search needs
+bits-at-requires : tie.Need-bits-at-requires Inv-loop μ-loop
+bits-at-requires c κs = search needs
+
+add-bits-at-2 : tie.Need-add-bits-at-2 Inv-loop μ-loop
+add-bits-at-2 c = search needs
+
+bits-at-requires-2 : tie.Need-bits-at-requires-2 Inv-loop μ-loop
+bits-at-requires-2 c κs = search needs
 
 returns : tie.Need-returns Inv-loop μ-loop
 returns c =
-    let a = c .before .before .before .before .before .before .before .before .args in
+    let a = c .before .before .before .before .before .before .before .before .before .before .args in
     let l = c .before .before .before .before .before .loop in
-    let turn : l .same < a .n = c .before .before .before .before .loop-test .taken in
-    let x = c .before .before .before .bit-at in
-    let y = c .before .before .bit-at2 in
-    sym (ap orderNo (l .inv .1 ∙ order-above (bitsOf (a .a .now)) (bitsOf (a .b .now)) (a .from) (a .at) (a .n) (l .same) (x .result) (y .result)
-    (omega (arith, length-bitsOf (a .a .now)))
-    (omega (arith, length-bitsOf (a .b .now)))
-    turn
-    (x .ensures)
-    (y .ensures)
-    (c .before .if1 .taken) (c .if2 .taken)))
+    let step = c .before .before .before .at-most-eight in
+    let x = c .before .before .bits-at in
+    let y = c .before .bits-at2 in
+    sym
+    (ap orderNo
+    (order-decided (bitsOf (a .a .now)) (bitsOf (a .b .now)) (a .from) (a .at) (a .n) (l .same) (step .result) (x .result) (y .result) Ordering·lt
+    (l .inv)
+    (search needs)
+    (x .ensures .0)
+    (y .ensures .0)
+    (x .ensures .1)
+    (y .ensures .1)
+    (c .if1 .taken)))
 
 returns-2 : tie.Need-returns-2 Inv-loop μ-loop
 returns-2 c =
-    let a = c .before .before .before .before .before .before .before .before .args in
-    let l = c .before .before .before .before .before .loop in
-    let turn : l .same < a .n = c .before .before .before .before .loop-test .taken in
-    let x = c .before .before .before .bit-at in
-    let y = c .before .before .bit-at2 in
-    sym (ap orderNo (l .inv .1 ∙ order-below (bitsOf (a .a .now)) (bitsOf (a .b .now)) (a .from) (a .at) (a .n) (l .same) (x .result) (y .result)
-    (omega (arith, length-bitsOf (a .a .now)))
-    (omega (arith, length-bitsOf (a .b .now)))
-    turn
-    (x .ensures)
-    (y .ensures)
-    (c .before .if1 .taken) (c .if2 .left)))
+    let a = c .before .before .before .before .before .before .before .before .before .before .before .args in
+    let l = c .before .before .before .before .before .before .loop in
+    let step = c .before .before .before .before .at-most-eight in
+    let x = c .before .before .before .bits-at in
+    let y = c .before .before .bits-at2 in
+    sym
+    (ap orderNo
+    (order-decided (bitsOf (a .a .now)) (bitsOf (a .b .now)) (a .from) (a .at) (a .n) (l .same) (step .result) (x .result) (y .result) Ordering·gt
+    (l .inv)
+    (search needs)
+    (x .ensures .0)
+    (y .ensures .0)
+    (x .ensures .1)
+    (y .ensures .1)
+    (c .if2 .taken)))
 
 add-same : tie.Need-add-same Inv-loop μ-loop
 add-same c = search needs
@@ -75,31 +89,21 @@ loop-less c = search needs
 
 loop-again : tie.Need-loop-again Inv-loop μ-loop
 loop-again c =
-    let a = c .before .before .before .before .before .before .before .args in
-    let l = c .before .before .before .before .loop in
-    let turn : l .same < a .n = c .before .before .before .loop-test .taken in
-    let x = c .before .before .bit-at in
-    let y = c .before .bit-at2 in (
-      search needs,
-      l .inv .1 ∙ order-agree (bitsOf (a .a .now)) (bitsOf (a .b .now)) (a .from) (a .at) (a .n) (l .same) (x .result) (y .result)
-          (omega (arith, length-bitsOf (a .a .now)))
-          (omega (arith, length-bitsOf (a .b .now)))
-          turn
-          (x .ensures)
-          (y .ensures)
-          (c .if1 .left),
-    )
+    let a = c .before .before .before .before .before .before .before .before .before .before .before .args in
+    let l = c .before .before .before .before .before .before .loop in
+    let step = c .before .before .before .before .at-most-eight in
+    let x = c .before .before .before .bits-at in
+    let y = c .before .before .bits-at2 in
+    let e : x .result ≡ y .result = omega arith in
+    alike-more (bitsOf (a .a .now)) (a .from) (bitsOf (a .b .now)) (a .at) (a .n) (l .same) (step .result) (search needs) (l .inv)
+    (sym (x .ensures .0) ∙ ap (toBits (step .result)) e ∙ y .ensures .0)
 
 returns-3 : tie.Need-returns-3 Inv-loop μ-loop
-unfolding orderBits
 returns-3 c =
-    let a = c .before .before .before .before .args in
+    let a = c .before .before .before .before .before .before .args in
     let l = c .before .loop in
-    sym (ap orderNo
-    (l .inv .1
-    ∙ ap₂ orderBits
-    (rest-none (bitsOf (a .a .now)) (a .from) (a .n) (l .same) (c .loop-test .left))
-    (rest-none (bitsOf (a .b .now)) (a .at) (a .n) (l .same) (c .loop-test .left))))
+    let all : l .same ≡ a .n = omega arith in
+    sym (ap orderNo (order-alike (subst (Alike (bitsOf (a .a .now)) (a .from) (bitsOf (a .b .now)) (a .at) (a .n)) all (l .inv) .same)))
 
 pub order-bits-spec : {M : Type 1} → statement M
 order-bits-spec =
@@ -107,11 +111,15 @@ order-bits-spec =
     (tie.spec
     Inv-loop
     μ-loop
+    alike-blocks-requires
+    alike-blocks-requires-2
     loop-holds
-    add-bit-at
-    bit-at-requires
-    add-bit-at-2
-    bit-at-requires-2
+    sub-at-most-eight
+    at-most-eight-requires
+    add-bits-at
+    bits-at-requires
+    add-bits-at-2
+    bits-at-requires-2
     returns
     returns-2
     add-same

@@ -1,94 +1,167 @@
--- `bits::put_number` meets its contract. The loop's invariant: the first i bits of the number are pasted, and the rest is as it was. Assumes
+-- `bits::put_number` meets its contract: the bits up to a byte's border, the whole bytes and what is left, each after the one before. Assumes
 -- nothing.
-use mathlib.Core.Path.{refl, _≡_, sym, ap, _∙_}
-use Prim.Native.Nat.{_<_, _-_, _≤_}
+use mathlib.Core.Path.{_≡_, refl, sym, ap, _∙_}
+use mathlib.Core.Bool.{Bool}
+use mathlib.Core.List.{List}
+use Prim.Native.Nat.{ℕ, _+_, _-_, _*_, _/_, _%_, _^_, _≤_}
 use native.Mathlib.Omega.{arith}
-use lib.ListN.{length}
-use lib.Seq.{paste, paste-zero}
+use lib.ListN.{take, drop}
+use lib.Seq.{paste}
 use borrow.Author.Needs.{needs}
-use Rattle.meaning.specs.Bits.{odd, bitsOf, toBits}
-use Rattle.bits.proofs.Numbers.{length-toBits, getD-toBits}
+use Rattle.meaning.specs.Bits.{bitsOf, toBits}
+use Rattle.bits.proofs.Numbers.{length-toBits}
 use Rattle.bits.proofs.OfBytes.{length-bitsOf}
-use Rattle.bits.proofs.Steps.{paste-step}
+use Rattle.bits.proofs.Parts.{take-own, take-toBits, drop-toBits, toBits-byte, toBits-part}
+use Rattle.bits.proofs.Pasted.{paste-same, paste-on}
 use Rattle.bits.proofs.put_number.Statement.{statement}
 use Rattle.bits.proofs.put_number.Tie as tie
 
-abbrev Inv-loop : tie.InvT-loop
-Inv-loop dst₀ at x n put₀ dst put =
-    (put ≤ n)
-    × (length dst ≡ length dst₀)
-    × (bitsOf dst ≡ paste (bitsOf dst₀) at (toBits n x) put)
+-- The first bits are those of the number with the rest shifted out, and the last bits are its own.
+first : (x head rest n : ℕ) → head ≤ 8 → n ≡ head + rest → take head (toBits head (x / 2 ^ rest % 256)) ≡ take head (toBits n x)
+first x head rest n h e =
+    take-own head (x / 2 ^ rest % 256)
+    ∙ toBits-byte head (x / 2 ^ rest) h
+    ∙ sym (take-toBits head rest x)
+    ∙ ap (λ (k : ℕ). take head (toBits k x)) (sym e)
 
-abbrev μ-loop : tie.MeasureT-loop
-μ-loop dst₀ at x n put₀ dst put = n - put
+last : (x done rest n : ℕ) → rest ≤ 8 → n ≡ done + rest → take rest (toBits rest (x % 256)) ≡ take rest (drop done (toBits n x))
+last x done rest n h e =
+    ap (take rest) (toBits-byte rest x h ∙ sym (drop-toBits done rest x) ∙ ap (λ (k : ℕ). drop done (toBits k x)) (sym e))
 
-loop-holds : tie.Need-loop-holds Inv-loop μ-loop
-loop-holds c =
-    let a = c .before .args in
-    (search needs, refl, paste-zero (bitsOf (a .dst .now)) (a .at) (toBits (a .n) (a .x)))
+-- All but the bits after the last whole byte.
+most : (c : tie.After-slice-known4) →
+    let a = c .before .before .before .before .before .before .before .before .before .before .args in
+    let head : ℕ = 8 - a .at % 8 in
+    bitsOf (c .before .before .put-bytes .last .0) ≡ paste (bitsOf (a .dst .now)) (a .at) (toBits (a .n) (a .x)) (head + 8 * ((a .n - head) / 8))
+most c =
+    let a = c .before .before .before .before .before .before .before .before .before .before .args in
+    let head : ℕ = 8 - a .at % 8 in
+    let bytes : ℕ = (a .n - head) / 8 in
+    let rest : ℕ = a .n - (head + 8 * bytes) in
+    paste-on (bitsOf (a .dst .now)) (toBits (a .n) (a .x)) (toBits (8 * bytes) (a .x / 2 ^ rest))
+    (bitsOf (c .before .before .before .before .before .before .put-some2 .last .0))
+    (bitsOf (c .before .before .put-bytes .last .0))
+    (a .at) head (8 * (a .at / 8 + 1)) (8 * bytes)
+    (omega (arith, length-bitsOf (a .dst .now)))
+    (omega (arith, length-toBits (a .n) (a .x)))
+    (c .before .before .before .before .before .before .put-some2 .ensures
+    ∙ paste-same (bitsOf (a .dst .now)) (toBits head (a .x / 2 ^ (a .n - head) % 256)) (toBits (a .n) (a .x)) (a .at) head
+    (first (a .x) head (a .n - head) (a .n) (omega arith) (omega arith)))
+    (c .before .before .put-bytes .ensures)
+    (omega arith)
+    (take-own (8 * bytes) (a .x / 2 ^ rest) ∙ sym (toBits-part (a .n) head (8 * bytes) (a .x) (omega arith)))
 
-add-put-bit : tie.Need-add-put-bit Inv-loop μ-loop
-add-put-bit c = search needs
+cast-lowest : tie.Need-cast-lowest
+cast-lowest c = search needs
 
-sub-put-bit : tie.Need-sub-put-bit Inv-loop μ-loop
-sub-put-bit c = search needs
+sub-head : tie.Need-sub-head
+sub-head c = search needs
 
-sub-put-bit-2 : tie.Need-sub-put-bit-2 Inv-loop μ-loop
-sub-put-bit-2 c = search needs
+put-some-requires : tie.Need-put-some-requires
+put-some-requires c κs = search needs
 
-shr-put-bit : tie.Need-shr-put-bit Inv-loop μ-loop
-shr-put-bit c = search needs
-
-put-bit-requires : tie.Need-put-bit-requires Inv-loop μ-loop
-put-bit-requires c κs = search needs
-
-add-put : tie.Need-add-put Inv-loop μ-loop
-add-put c = search needs
-
-loop-less : tie.Need-loop-less Inv-loop μ-loop
-loop-less c = search needs
-
-loop-again : tie.Need-loop-again Inv-loop μ-loop
-unfolding odd
-loop-again c =
-    let a = c .before .before .before .before .before .before .before .args in
-    let l = c .before .before .before .before .before .loop in
-    let turn : l .put < a .n = c .before .before .before .before .loop-test .taken in
-    let put = c .before .before .put-bit in (
-      search needs,
-      put .kept .0 ∙ l .inv .1,
-      put .ensures
-          ∙ paste-step (bitsOf (a .dst .now)) (toBits (a .n) (a .x)) (bitsOf (l .dst)) (a .at) (l .put) _
-          (omega (arith, length-bitsOf (a .dst .now)))
-          (omega (arith, length-toBits (a .n) (a .x)))
-          (l .inv .2)
-          (sym (getD-toBits (a .n) (a .x) (l .put) turn)),
-    )
-
-same-length : tie.Need-same-length Inv-loop μ-loop
+same-length : tie.Need-same-length
 same-length c = search needs
 
-returns : tie.Need-returns Inv-loop μ-loop
+returns : tie.Need-returns
 returns c =
-    let a = c .before .before .before .args in
-    let l = c .before .loop in
-    let end : l .put ≡ a .n = omega arith in
-    l .inv .2 ∙ ap (paste (bitsOf (a .dst .now)) (a .at) (toBits (a .n) (a .x))) end
+    let a = c .before .before .before .before .before .before .args in
+    c .before .before .put-some .ensures
+    ∙ ap (λ (v : List Bool). paste (bitsOf (a .dst .now)) (a .at) v (a .n)) (toBits-byte (a .n) (a .x) (search needs))
+
+sub-put-some : tie.Need-sub-put-some
+sub-put-some c = search needs
+
+shr-put-some : tie.Need-shr-put-some
+shr-put-some c = search needs
+
+cast-put-some : tie.Need-cast-put-some
+cast-put-some c = search needs
+
+put-some-requires-2 : tie.Need-put-some-requires-2
+put-some-requires-2 c κs = search needs
+
+sub-bytes : tie.Need-sub-bytes
+sub-bytes c = search needs
+
+mul-done : tie.Need-mul-done
+mul-done c = search needs
+
+add-done : tie.Need-add-done
+add-done c = search needs
+
+sub-rest : tie.Need-sub-rest
+sub-rest c = search needs
+
+add-put-bytes : tie.Need-add-put-bytes
+add-put-bytes c = search needs
+
+shr-put-bytes : tie.Need-shr-put-bytes
+shr-put-bytes c = search needs
+
+put-bytes-requires : tie.Need-put-bytes-requires
+put-bytes-requires c κs = search needs
+
+add-put-some : tie.Need-add-put-some
+add-put-some c = search needs
+
+put-some-requires-3 : tie.Need-put-some-requires-3
+put-some-requires-3 c κs = search needs
+
+same-length-2 : tie.Need-same-length-2
+same-length-2 c = search needs
+
+returns-2 : tie.Need-returns-2
+returns-2 c =
+    let a = c .before .before .before .before .before .before .before .before .before .before .before .before .before .before .before .args in
+    let head : ℕ = 8 - a .at % 8 in
+    let done : ℕ = head + 8 * ((a .n - head) / 8) in
+    let all : done + (a .n - done) ≡ a .n = omega arith in
+    paste-on (bitsOf (a .dst .now)) (toBits (a .n) (a .x)) (toBits (a .n - done) (a .x % 256))
+    (bitsOf (c .before .before .before .before .before .before .before .put-bytes .last .0))
+    (bitsOf (c .before .before .put-some3 .last .0))
+    (a .at) done (a .at + done) (a .n - done)
+    (omega (arith, length-bitsOf (a .dst .now)))
+    (omega (arith, length-toBits (a .n) (a .x)))
+    (most (c .before .before .before .before .before))
+    (c .before .before .put-some3 .ensures)
+    refl
+    (last (a .x) done (a .n - done) (a .n) (omega arith) (omega arith))
+    ∙ ap (paste (bitsOf (a .dst .now)) (a .at) (toBits (a .n) (a .x))) all
+
+same-length-3 : tie.Need-same-length-3
+same-length-3 c = search needs
+
+returns-3 : tie.Need-returns-3
+returns-3 c =
+    let a = c .before .before .before .before .before .before .before .before .before .before .before .args in
+    let head : ℕ = 8 - a .at % 8 in
+    let all : head + 8 * ((a .n - head) / 8) ≡ a .n = omega arith in
+    most (c .before) ∙ ap (paste (bitsOf (a .dst .now)) (a .at) (toBits (a .n) (a .x))) all
 
 pub put-number-spec : {M : Type 1} → statement M
 put-number-spec =
     tie.close
     (tie.spec
-    Inv-loop
-    μ-loop
-    loop-holds
-    add-put-bit
-    sub-put-bit
-    sub-put-bit-2
-    shr-put-bit
-    put-bit-requires
-    add-put
-    loop-less
-    loop-again
+    cast-lowest
+    sub-head
+    put-some-requires
     same-length
-    returns)
+    returns
+    sub-put-some
+    shr-put-some
+    cast-put-some
+    put-some-requires-2
+    sub-bytes
+    mul-done
+    add-done
+    sub-rest
+    add-put-bytes
+    shr-put-bytes
+    put-bytes-requires
+    add-put-some
+    put-some-requires-3
+    same-length-2
+    returns-2
+    same-length-3
+    returns-3)
