@@ -1,6 +1,6 @@
 -- What a call answers and what its output holds, by how far it has climbed. The rungs 1 to 5 are `rs`; `gate` has answered for them.
 --
---   stopped                         they refuse, and so does the call
+--   stopped-read stopped-made       they refuse, and so does the call: a reader; a writer
 --   length-stopped length-told      the same of a call that has no other rung; and it is accepted where they are
 --   ended-early no-room-read read-done      a reader: 8; 9; accepted
 --   no-room made-done               a writer: 9; accepted
@@ -29,9 +29,18 @@ accepts : {a : Answer ℕ} {n : ℕ} (before written : List ℕ) {after : List �
     → Answers (accepted n) a before written after
 accepts {a} {n} before written e f = (sym e, f ∙ sym (kept-accepted a n before written e))
 
-pub stopped : (rs ss : List Rung) (a : ℕ) {n p : ℕ} (before written : List ℕ) → refused n p ≡ ladder rs (tt {0})
+stopped : (rs ss : List Rung) (a : ℕ) {n p : ℕ} (before written : List ℕ) → refused n p ≡ ladder rs (tt {0})
     → Answers (refused n p) (ladder (rs ++ ss) a) before written before
 stopped rs ss a {n} {p} before written h = refuses before written (ladder-stop rs ss (tt {0}) a n p (sym h))
+
+pub stopped-read : (rs : List Rung) (s : Stream) (d : Decoded) (out : List ℕ) {n p : ℕ} → refused n p ≡ ladder rs (tt {0})
+    → Answers (refused n p) (reads rs s d out) out (written (recordOf d) out) out
+stopped-read rs s d out h =
+    stopped rs (rung (isEarly d) 8 0 ∷ roomFor (recordOf d) out) (s .position + consumed d) out (written (recordOf d) out) h
+
+pub stopped-made : (rs : List Rung) (v : List Bool) (out : List ℕ) {n p : ℕ} → refused n p ≡ ladder rs (tt {0})
+    → Answers (refused n p) (makes rs v out) out (written v out) out
+stopped-made rs v out h = stopped rs (roomFor v out) (length v) out (written v out) h
 
 pub length-stopped : (rs : List Rung) (a : ℕ) {n p : ℕ} → refused n p ≡ ladder rs (tt {0}) → refused n p ≡ ladder rs a
 length-stopped rs a {n} {p} h =

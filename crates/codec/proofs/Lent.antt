@@ -1,21 +1,18 @@
--- A call hands its walk the bytes from byte o / 8 on and the bit o % 8, so that the walk's numbers stay small. The bits are the same.
+-- Records and streams in the bytes that a call lends its walk: the laws of lent bytes, for what a call has checked.
 --
---   lent                            the bytes from byte o / 8 on, as a slice has them
 --   Handed handed-on                what is known of a record once rungs 1 to 5 are passed
 --   Streamed streamed-on            what is known of a stream once they are
 --   record-span record-compact record-padded        a record in the bytes lent
 --   stream-until stream-rest stream-same            a stream in the bytes lent; past its end nothing matters to a whole reading
 --   padded-short padded-run         padded reading of a stream, by the bytes lent
 -- Assumes nothing.
-use mathlib.Core.Path.{_≡_, sym, ap, _∙_}
+use mathlib.Core.Path.{_≡_, refl, sym, ap, _∙_}
 use mathlib.Core.Bool.{Bool}
 use mathlib.Core.List.{List, [], _∷_}
 use Prim.Native.Nat.{ℕ, _+_, _-_, _*_, _/_, _%_, _≤_, _<_}
 use native.Mathlib.Omega.{arith}
-use lib.Dec.{leb}
-use lib.ListN.{length, take, drop, length-take, length-drop, take-append-drop}
-use lib.Seq.{take-take, length-take-le}
-use borrow.Author.Tests.{le-leb, lt-leb}
+use lib.ListN.{length, take, drop, take-append-drop}
+use lib.Seq.{take-take}
 use Rattle.meaning.specs.Types.{bits}
 use Rattle.meaning.specs.Tables.{Table, tyAt}
 use Rattle.meaning.specs.Bits.{bitsOf}
@@ -24,22 +21,17 @@ use Rattle.meaning.specs.Codecs.{early, decoded, decodeCompact, decodePadded}
 use Rattle.meaning.specs.Ladder.{accepted, ladder, record-of, stream-of, recordBits, restOf}
 use Rattle.meaning.specs.RecordCalls.{handed}
 use Rattle.meaning.specs.CodecCalls.{readRungs}
-use Rattle.meaning.proofs.Tests.{cond-true, cond-false}
 use Rattle.laws.proofs.CodecExact.{compact-more-bits}
-use Rattle.bits.proofs.OfBytes.{length-bitsOf, part-lent}
+use Rattle.bits.proofs.OfBytes.{part-lent}
+use Rattle.bits.proofs.Lent.{lent, lent-starts, lent-inside, lent-record, record-length, padded-early, padded-whole}
+use Rattle.bits.proofs.Lent as lent-bytes
 use Rattle.gate.proofs.Passed.{handed-passed, stream-passed}
 use Rattle.codec.specs.Walks.{Walk, Span}
 use Rattle.codec.proofs.Pieces.{drop-take, compact-take}
 
--- The bytes from byte o / 8 on.
-abbrev pub lent : List ℕ → ℕ → List ℕ
-lent bytes o = take (length bytes - o / 8) (drop (o / 8) bytes)
-
-lent-length : (bytes : List ℕ) (o : ℕ) → length (lent bytes o) ≡ length bytes - o / 8
-lent-length bytes o = omega (arith, length-take (length bytes - o / 8) (drop (o / 8) bytes), length-drop (o / 8) bytes)
-
 -- A record whose table, node and bounds a call has checked.
 pub record Handed (t : Table) (bytes : List ℕ) (offset node : ℕ) : Type 0 where
+  pub passed : accepted (tt {0}) ≡ ladder (handed t (record-of bytes offset node ∷ []) []) (tt {0})
   pub walk : Walk t node
   pub ends : offset + bits (tyAt (t .columns) node) ≤ 8 * length bytes
 
@@ -47,10 +39,15 @@ pub handed-on : (t : Table) (bytes : List ℕ) (offset node : ℕ)
     → accepted (tt {0}) ≡ ladder (handed t (record-of bytes offset node ∷ []) []) (tt {0}) → Handed t bytes offset node
 handed-on t bytes offset node h =
     let p = handed-passed t (record-of bytes offset node ∷ []) [] (sym h) in
-    record { walk = record { sound = p .0; present = p .1 .0 .here; narrow = p .1 .0 .narrow }; ends = p .2 .0 .ends }
+    record {
+      passed = h;
+      walk = record { sound = p .0; present = p .1 .0 .here; narrow = p .1 .0 .narrow };
+      ends = p .2 .0 .ends;
+    }
 
 -- A stream whose table, node and bounds a call has checked.
 pub record Streamed (t : Table) (bytes : List ℕ) (until position node : ℕ) : Type 0 where
+  pub passed : accepted (tt {0}) ≡ ladder (readRungs t (stream-of bytes until position) node) (tt {0})
   pub walk : Walk t node
   pub ends : until ≤ 8 * length bytes
   pub begins : position ≤ until
@@ -60,6 +57,7 @@ pub streamed-on : (t : Table) (bytes : List ℕ) (until position node : ℕ)
 streamed-on t bytes until position node h =
     let p = stream-passed t (stream-of bytes until position) node (sym h) in
     record {
+      passed = h;
       walk = record { sound = p .0; present = p .1 .here; narrow = p .1 .narrow };
       ends = p .2 .ends;
       begins = p .2 .begins;
@@ -67,19 +65,18 @@ streamed-on t bytes until position node h =
 
 module _ {t : Table} {bytes : List ℕ} {offset node : ℕ} (h : Handed t bytes offset node) where
   pub record-start : offset / 8 ≤ length bytes
-  record-start = omega (arith, h .ends)
+  record-start = lent-starts bytes offset (bits (tyAt (t .columns) node)) (h .ends)
 
   pub record-span : Span (lent bytes offset) (offset % 8) (bits (tyAt (t .columns) node))
   record-span =
       record {
-        inside = omega (arith, h .ends, lent-length bytes offset);
+        inside = lent-inside bytes offset (bits (tyAt (t .columns) node)) (h .ends);
         counted = omega (arith, h .walk .narrow);
       }
 
   pub record-padded : take (bits (tyAt (t .columns) node)) (drop (offset % 8) (bitsOf (lent bytes offset)))
       ≡ recordBits t (record-of bytes offset node)
-  unfolding recordBits
-  record-padded = ap (take (bits (tyAt (t .columns) node))) (part-lent offset bytes)
+  record-padded = lent-record t (record-of bytes offset node) (bits (tyAt (t .columns) node)) refl
 
   pub record-compact : compact (tyAt (t .columns) node) (drop (offset % 8) (bitsOf (lent bytes offset)))
       ≡ compact (tyAt (t .columns) node) (recordBits t (record-of bytes offset node))
@@ -88,10 +85,7 @@ module _ {t : Table} {bytes : List ℕ} {offset node : ℕ} (h : Handed t bytes 
       ∙ ap (compact (tyAt (t .columns) node)) record-padded
 
   pub record-width : length (recordBits t (record-of bytes offset node)) ≡ bits (tyAt (t .columns) node)
-  unfolding recordBits
-  record-width =
-      length-take-le (bits (tyAt (t .columns) node)) (drop offset (bitsOf bytes))
-      (omega (arith, h .ends, length-drop offset (bitsOf bytes), length-bitsOf bytes))
+  record-width = record-length t (record-of bytes offset node) (h .ends)
 
 module _ {t : Table} {bytes : List ℕ} {until position node : ℕ} (h : Streamed t bytes until position node) where
   -- The bits from the position on, in the bytes lent, and as many of them as the stream has.
@@ -105,7 +99,7 @@ module _ {t : Table} {bytes : List ℕ} {until position node : ℕ} (h : Streame
   stream-start = omega (arith, h .ends, h .begins)
 
   pub stream-until : position % 8 + (until - position) ≤ 8 * length (lent bytes position)
-  stream-until = omega (arith, h .ends, h .begins, lent-length bytes position)
+  stream-until = lent-inside bytes position (until - position) (omega (arith, h .ends, h .begins))
 
   taken : take (until - position) from ≡ rest
   unfolding restOf
@@ -120,10 +114,7 @@ module _ {t : Table} {bytes : List ℕ} {until position node : ℕ} (h : Streame
   stream-rest = drop-take (position % 8) (until - position) (bitsOf (lent bytes position)) ∙ taken
 
   pub rest-length : length (restOf (stream-of bytes until position)) ≡ until - position
-  unfolding restOf
-  rest-length =
-      length-drop position (take until (bitsOf bytes))
-      ∙ ap (λ (k : ℕ). k - position) (length-take-le until (bitsOf bytes) (omega (arith, h .ends, length-bitsOf bytes)))
+  rest-length = lent-bytes.rest-length (stream-of bytes until position) (h .ends)
 
   pub stream-same : {v : List Bool} {n : ℕ} → decodeCompact (tyAt (t .columns) node) (restOf (stream-of bytes until position)) ≡ decoded v n
       → decodeCompact (tyAt (t .columns) node) (drop (position % 8) (bitsOf (lent bytes position))) ≡ decoded v n
@@ -134,18 +125,14 @@ module _ {t : Table} {bytes : List ℕ} {until position node : ℕ} (h : Streame
 
   pub padded-short : until - position < bits (tyAt (t .columns) node)
       → decodePadded (tyAt (t .columns) node) (restOf (stream-of bytes until position)) ≡ early
-  unfolding decodePadded
-  padded-short l =
-      let w = bits (tyAt (t .columns) node) in
-      cond-false (leb w (length rest)) (decoded (take w rest) w) early (lt-leb w (length rest) (omega (arith, rest-length)))
+  padded-short l = padded-early (tyAt (t .columns) node) rest (omega (arith, rest-length))
 
   pub padded-run : bits (tyAt (t .columns) node) ≤ until - position
       → decodePadded (tyAt (t .columns) node) (restOf (stream-of bytes until position))
       ≡ decoded (take (bits (tyAt (t .columns) node)) (drop (position % 8) (bitsOf (lent bytes position)))) (bits (tyAt (t .columns) node))
-  unfolding decodePadded
   padded-run l =
       let w = bits (tyAt (t .columns) node) in
-      cond-true (leb w (length rest)) (decoded (take w rest) w) early (le-leb w (length rest) (omega (arith, rest-length)))
+      padded-whole (tyAt (t .columns) node) rest (omega (arith, rest-length))
       ∙ ap (λ (v : List Bool). decoded v w) (ap (take w) (sym taken) ∙ take-take w (until - position) from l)
 
   pub padded-span : bits (tyAt (t .columns) node) ≤ until - position → Span (lent bytes position) (position % 8) (bits (tyAt (t .columns) node))

@@ -4,6 +4,7 @@ pub mod Pieces
 pub mod Writing
 pub mod Streams
 pub mod Readings
+pub mod Turns
 pub mod Lent
 pub mod Calls
 pub mod ReadLaws

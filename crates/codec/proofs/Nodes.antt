@@ -5,7 +5,7 @@
 --   own-width low             the width that was read is the true one; it lies below the end of the numbers
 --   is-sum is-prod            the tree of a node with padding, by its kind
 --   Taken taken               the side of a sum that its tag takes: it stands earlier, and the walk may go on there
---   Parts parts               the same of both parts of a product
+--   Parts parts at-left       the same of both parts of a product; the left one, read too
 --   tag-inside payload-span left-span right-span    where tag, payload and parts lie in a record that lies in bytes
 -- Assumes nothing.
 use mathlib.Core.Path.{_≡_, refl, sym, ap, _∙_, subst}
@@ -65,6 +65,10 @@ pub record Parts (t : Table) (n : ℕ) (r : Node) : Type 0 where
   pub left-wide : r .«left_width» ≡ bits (tyAt (t .columns) (r .left))
   pub right-wide : r .«right_width» ≡ bits (tyAt (t .columns) (r .right))
   pub both : r .width ≡ r .«left_width» + r .«right_width»
+
+-- The walk reads the left part of a product too.
+pub at-left : {t : Table} {n : ℕ} {r left : Node} → Parts t n r → Reads t (r .left) left → Here t (r .left) left
+at-left g q = record { walk = g .left-walk; reads = q }
 
 module _ {t : Table} {n : ℕ} {r : Node} (h : Here t n r) where
   -- The trees of the node, its left and its right side.

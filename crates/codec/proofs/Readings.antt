@@ -1,9 +1,11 @@
 -- What was read and written, piece after piece, of a reading that is known to be whole.
 --
 --   whole                       a reading that does not end early is a record and a count
+--   wide-whole                  no reading of as many bits as the type is wide ends early
 --   run-enough tag-enough first-whole   what a whole reading at a node says: enough bits, a tag, a whole first part
 --   Tagged tagged-whole         the payload after a tag is whole too, and what the sum adds to it
 --   Joined joined-whole         the same of the second part of a product
+--   read-at                     the same output and end
 --   read-run read-tag read-both what was written, by the pieces
 -- Assumes nothing.
 use mathlib.Core.Path.{_≡_, refl, sym, ap, _∙_, subst}
@@ -14,12 +16,14 @@ use native.Mathlib.Decide.{decLe}
 use native.Mathlib.Omega.{arith}
 use lib.ListN.{length, set, take, drop, length-replicate}
 use lib.Seq.{paste, length-take-le}
+use Rattle.meaning.specs.Types.{Ty, bits}
 use Rattle.meaning.specs.Tables.{Table, tyAt}
 use Rattle.meaning.specs.Bits.{bitsOf, zeros}
 use Rattle.meaning.specs.Codecs.{Decoded, early, decoded, underTag, afterFirst, decodeCompact, isEarly, recordOf, consumed}
+use Rattle.laws.proofs.CodecExact.{compact-wide-enough}
 use Rattle.nodes.specs.declared.Node.{Node}
 use Rattle.codec.specs.Walks.{Wrote, ReadTo}
-use Rattle.codec.proofs.Writing.{wrote, wrote-run, wrote-tag, wrote-both}
+use Rattle.codec.proofs.Writing.{wrote, wrote-at, wrote-run, wrote-tag, wrote-both}
 use Rattle.codec.proofs.Nodes.{Here}
 use Rattle.codec.proofs.Streams.{under, decode-short, decode-none, decode-first-early}
 
@@ -28,6 +32,13 @@ whole {d} h = go d h
   where
     go : (x : Decoded) → isEarly x ≡ false → x ≡ decoded (recordOf x) (consumed x)
     go early e = absurd (true≢false e)
+    go (decoded v n) e = refl
+
+pub wide-whole : (t : Ty) (s : List Bool) → bits t ≤ length s → isEarly (decodeCompact t s) ≡ false
+wide-whole t s l = go (decodeCompact t s) refl
+  where
+    go : (x : Decoded) → decodeCompact t s ≡ x → isEarly x ≡ false
+    go early e = absurd (compact-wide-enough t s l e)
     go (decoded v n) e = refl
 
 -- A whole reading at the node that a walk has read, in the bits s from bit `at` on.
@@ -81,6 +92,10 @@ wrote-end : {v u : List Bool} {before after : List ℕ} {to next : ℕ} → v �
     → Wrote v before to (to + length v) after
 wrote-end {v} {u} {before} {after} {to} {next} e p =
     wrote e (subst (λ (k : ℕ). Wrote u before to k after) (p .ends ∙ ap (λ (x : List Bool). to + length x) (sym e)) p)
+
+pub read-at : {d : Decoded} {before x after : List ℕ} {at to n next : ℕ} → after ≡ x → next ≡ n → ReadTo d at before to n x
+    → ReadTo d at before to next after
+read-at e f r = record { consumes = f ∙ r .consumes; wrote = wrote-at e refl (r .wrote) }
 
 pub read-run : {d : Decoded} (x : List Bool) {w : ℕ} {before after : List ℕ} {at to : ℕ} → d ≡ decoded (take w x) w → w ≤ length x
     → bitsOf after ≡ paste (bitsOf before) to x w → ReadTo d at before to (at + w) after

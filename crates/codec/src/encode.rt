@@ -1,11 +1,14 @@
 // Compact writing: the walk over a record that counts its compact bits, and the one that writes them. Both go by node numbers, which fall at
-// every call. A node without padding is one run of bits. Inner: the table and the bounds are those that a public call has checked.
+// every turn and at every call: a turn goes on with the side that a tag takes, or with the right part of a product, and only a left part with
+// padding takes a call. What has no padding is one run of bits. Inner: the table and the bounds are those that a public call has checked.
 use crate::walk::side_of;
+use crate::walk::width_of;
 ghost use mathlib.Core.Path.{_≡_};
+ghost use lib.Dec.{leb};
 ghost use lib.ListN.{length, drop};
 ghost use Rattle.meaning.specs.Types.{bits};
 ghost use Rattle.meaning.specs.Tables.{table, columns, tyAt};
-ghost use Rattle.meaning.specs.Bits.{bitsOf, written};
+ghost use Rattle.meaning.specs.Bits.{bitsOf, room, written};
 ghost use Rattle.meaning.specs.Records.{compact};
 ghost use Rattle.codec.specs.Walks.{Walk, Span, Wrote};
 
@@ -27,7 +30,86 @@ pub(crate) fn count_compact(
     requires { ⌜ Span (now src) at (bits (tyAt (columns (now kinds) (now lefts) (now rights)) node)) ⌝ }
     ensures { λ r. ⌜ r ≡ length (compact (tyAt (columns (now (kinds .entry)) (now (lefts .entry)) (now (rights .entry))) node) (drop at (bitsOf (now (src .entry))))) ⌝ }
 {
-    let n = nodes::node_at(
+    let mut here = node;
+    let mut from = at;
+    let mut counted = 0;
+    loop {
+        let n = nodes::node_at(
+            kinds,
+            lefts,
+            rights,
+            widths,
+            sizes,
+            padded,
+            classes,
+            count,
+            here,
+        );
+        if !n.padded {
+            return counted + n.width as usize;
+        }
+        if n.kind == 1 {
+            let side = side_of(n, bits::bit_at(src, from));
+            counted = counted + 1;
+            from = from + (n.width - side.width) as usize;
+            here = side.node;
+            continue;
+        }
+        let left = nodes::node_at(
+            kinds,
+            lefts,
+            rights,
+            widths,
+            sizes,
+            padded,
+            classes,
+            count,
+            n.left,
+        );
+        let first = if left.padded {
+            count_compact(
+                kinds,
+                lefts,
+                rights,
+                widths,
+                sizes,
+                padded,
+                classes,
+                count,
+                src,
+                from,
+                n.left,
+            )
+        } else {
+            left.width as usize
+        };
+        counted = counted + first;
+        from = from + n.left_width as usize;
+        here = n.right;
+    }
+}
+
+// Whether the compact bits of the record at a bit fit into so many bytes. They are no more than the record has bits, so they are counted only
+// where the whole record would not fit.
+pub(crate) fn compact_fits(
+    kinds: &[u8],
+    lefts: &[u16],
+    rights: &[u16],
+    widths: &[u64],
+    sizes: &[u64],
+    padded: &[u8],
+    classes: &[u16],
+    count: usize,
+    src: &[u8],
+    at: usize,
+    node: usize,
+    space: usize,
+) -> bool
+    requires { ⌜ Walk (table (now kinds) (now lefts) (now rights) (now widths) (now sizes) (now padded) (now classes) count) node ⌝ }
+    requires { ⌜ Span (now src) at (bits (tyAt (columns (now kinds) (now lefts) (now rights)) node)) ⌝ }
+    ensures { λ r. ⌜ r ≡ leb (room (length (compact (tyAt (columns (now (kinds .entry)) (now (lefts .entry)) (now (rights .entry))) node) (drop at (bitsOf (now (src .entry))))))) space ⌝ }
+{
+    let width = width_of(
         kinds,
         lefts,
         rights,
@@ -38,27 +120,10 @@ pub(crate) fn count_compact(
         count,
         node,
     );
-    if !n.padded {
-        return n.width as usize;
+    if (width + 7) / 8 <= space {
+        return true;
     }
-    if n.kind == 1 {
-        let side = side_of(n, bits::bit_at(src, at));
-        return 1
-            + count_compact(
-                kinds,
-                lefts,
-                rights,
-                widths,
-                sizes,
-                padded,
-                classes,
-                count,
-                src,
-                at + (n.width - side.width) as usize,
-                side.node,
-            );
-    }
-    let first = count_compact(
+    let n = count_compact(
         kinds,
         lefts,
         rights,
@@ -69,22 +134,9 @@ pub(crate) fn count_compact(
         count,
         src,
         at,
-        n.left,
+        node,
     );
-    first
-        + count_compact(
-            kinds,
-            lefts,
-            rights,
-            widths,
-            sizes,
-            padded,
-            classes,
-            count,
-            src,
-            at + n.left_width as usize,
-            n.right,
-        )
+    (n + 7) / 8 <= space
 }
 
 // Writes the compact bits of the record at a bit, and answers the bit after them.
@@ -108,27 +160,11 @@ pub(crate) fn write_compact(
     requires { ⌜ Span (now out) to (length (compact (tyAt (columns (now kinds) (now lefts) (now rights)) node) (drop at (bitsOf (now src))))) ⌝ }
     ensures { λ r. ⌜ Wrote (compact (tyAt (columns (now (kinds .entry)) (now (lefts .entry)) (now (rights .entry))) node) (drop at (bitsOf (now (src .entry))))) (now (out .entry)) to r (now (out .exit)) ⌝ }
 {
-    let n = nodes::node_at(
-        kinds,
-        lefts,
-        rights,
-        widths,
-        sizes,
-        padded,
-        classes,
-        count,
-        node,
-    );
-    if !n.padded {
-        let w = n.width as usize;
-        bits::copy_bits(src, at, out, to, w);
-        return to + w;
-    }
-    if n.kind == 1 {
-        let right = bits::bit_at(src, at);
-        let side = side_of(n, right);
-        bits::put_bit(out, to, right);
-        return write_compact(
+    let mut here = node;
+    let mut from = at;
+    let mut next = to;
+    loop {
+        let n = nodes::node_at(
             kinds,
             lefts,
             rights,
@@ -137,46 +173,60 @@ pub(crate) fn write_compact(
             padded,
             classes,
             count,
-            src,
-            at + (n.width - side.width) as usize,
-            side.node,
-            out,
-            to + 1,
+            here,
         );
+        if !n.padded {
+            let w = n.width as usize;
+            bits::copy_bits(src, from, out, next, w);
+            return next + w;
+        }
+        if n.kind == 1 {
+            let right = bits::bit_at(src, from);
+            let side = side_of(n, right);
+            bits::put_bit(out, next, right);
+            next = next + 1;
+            from = from + (n.width - side.width) as usize;
+            here = side.node;
+            continue;
+        }
+        let left = nodes::node_at(
+            kinds,
+            lefts,
+            rights,
+            widths,
+            sizes,
+            padded,
+            classes,
+            count,
+            n.left,
+        );
+        if left.padded {
+            next = write_compact(
+                kinds,
+                lefts,
+                rights,
+                widths,
+                sizes,
+                padded,
+                classes,
+                count,
+                src,
+                from,
+                n.left,
+                out,
+                next,
+            );
+        } else {
+            let first = left.width as usize;
+            bits::copy_bits(src, from, out, next, first);
+            next = next + first;
+        }
+        from = from + n.left_width as usize;
+        here = n.right;
     }
-    let next = write_compact(
-        kinds,
-        lefts,
-        rights,
-        widths,
-        sizes,
-        padded,
-        classes,
-        count,
-        src,
-        at,
-        n.left,
-        out,
-        to,
-    );
-    write_compact(
-        kinds,
-        lefts,
-        rights,
-        widths,
-        sizes,
-        padded,
-        classes,
-        count,
-        src,
-        at + n.left_width as usize,
-        n.right,
-        out,
-        next,
-    )
 }
 
-// Writes the compact bits of the record at a bit from bit 0 of the output on.
+// Writes the compact bits of the record at a bit from bit 0 of the output on, and answers how many they are.
 pub(crate) fn write_record(
     kinds: &[u8],
     lefts: &[u16],
@@ -190,10 +240,11 @@ pub(crate) fn write_record(
     at: usize,
     node: usize,
     out: &mut [u8],
-)
+) -> usize
     requires { ⌜ Walk (table (now kinds) (now lefts) (now rights) (now widths) (now sizes) (now padded) (now classes) count) node ⌝ }
     requires { ⌜ Span (now src) at (bits (tyAt (columns (now kinds) (now lefts) (now rights)) node)) ⌝ }
     requires { ⌜ Span (now out) 0 (length (compact (tyAt (columns (now kinds) (now lefts) (now rights)) node) (drop at (bitsOf (now src))))) ⌝ }
+    ensures { λ r. ⌜ r ≡ length (compact (tyAt (columns (now (kinds .entry)) (now (lefts .entry)) (now (rights .entry))) node) (drop at (bitsOf (now (src .entry))))) ⌝ }
     ensures { λ _. ⌜ now (out .exit) ≡ written (compact (tyAt (columns (now (kinds .entry)) (now (lefts .entry)) (now (rights .entry))) node) (drop at (bitsOf (now (src .entry))))) (now (out .entry)) ⌝ }
 {
     let end = write_compact(
@@ -212,4 +263,5 @@ pub(crate) fn write_record(
         0,
     );
     bits::finish(out, end);
+    end
 }

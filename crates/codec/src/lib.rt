@@ -11,9 +11,9 @@ use answers::Count;
 use answers::Done;
 use answers::Refusal;
 use copy::copy_record;
-use decode::End;
-use decode::judge_compact;
+use decode::ends_early;
 use decode::read_record;
+use encode::compact_fits;
 use encode::count_compact;
 use encode::write_record;
 use walk::width_of;
@@ -63,7 +63,8 @@ pub fn from_compact_bits(
     let from = position / 8;
     let src = &bytes[from..];
     let at = position % 8;
-    let End::At(next) = judge_compact(
+    let until = at + (length - position);
+    if ends_early(
         kinds,
         lefts,
         rights,
@@ -73,15 +74,15 @@ pub fn from_compact_bits(
         classes,
         count,
         src,
-        at + (length - position),
+        until,
         at,
         node,
-    ) else {
+    ) {
         return Count::Refused(Refusal {
             number: 8,
             place: 0,
         });
-    };
+    }
     let width = width_of(
         kinds,
         lefts,
@@ -99,7 +100,7 @@ pub fn from_compact_bits(
             place: 0,
         });
     }
-    read_record(
+    let next = read_record(
         kinds,
         lefts,
         rights,
@@ -219,7 +220,8 @@ pub fn to_compact_bits(
     let from = offset / 8;
     let src = &bytes[from..];
     let at = offset % 8;
-    let n = count_compact(
+    let space = out.len();
+    if !compact_fits(
         kinds,
         lefts,
         rights,
@@ -231,14 +233,14 @@ pub fn to_compact_bits(
         src,
         at,
         node,
-    );
-    if out.len() < (n + 7) / 8 {
+        space,
+    ) {
         return Count::Refused(Refusal {
             number: 9,
             place: 0,
         });
     }
-    write_record(
+    let n = write_record(
         kinds,
         lefts,
         rights,

@@ -1,10 +1,10 @@
 -- `codec::compact_len` meets its contract. Assumes nothing.
-use mathlib.Core.Path.{_≡_, sym, ap, _∙_}
+use mathlib.Core.Path.{sym, ap, _∙_}
 use mathlib.Core.List.{List}
 use borrow.Author.Needs.{needs}
 use lib.ListN.{length}
 use Rattle.meaning.specs.Tables.{Table, table}
-use Rattle.meaning.specs.Ladder.{accepted, Rung, ladder, Record, record-of}
+use Rattle.meaning.specs.Ladder.{accepted, Rung, Record, record-of}
 use Rattle.meaning.specs.CodecCalls.{writeRungs, compactBits}
 use Rattle.answers.specs.Verdicts.{doneOf}
 use Rattle.codec.proofs.Lent.{Handed, handed-on, record-start, record-span, record-compact}
@@ -47,11 +47,10 @@ module _ (c : tie.After-enum-told) where
   abbrev gate : tie.After-record
   gate = c .before .before
 
-  accepted-gate : accepted (tt {0}) ≡ ladder (rungs gate) (tt {0})
-  accepted-gate = ap doneOf (sym (c .enum-told .given .1)) ∙ gate .«record» .ensures
-
   checked : Handed (of gate) (start gate .args .bytes .now) (start gate .args .offset) (start gate .args .node)
-  checked = let a = start gate .args in handed-on (of gate) (a .bytes .now) (a .offset) (a .node) accepted-gate
+  checked =
+      let a = start gate .args in
+      handed-on (of gate) (a .bytes .now) (a .offset) (a .node) (ap doneOf (sym (c .enum-told .given .1)) ∙ gate .«record» .ensures)
 
 sub-count-compact : tie.Need-sub-count-compact
 sub-count-compact c = record-start (checked c)
@@ -70,7 +69,7 @@ returns-2 c =
     let e = c .before .before in
     let g = gate e in
     ap accepted (c .count-compact .ensures ∙ ap length (record-compact (checked e)))
-    ∙ length-told (rungs g) (length (compactBits (of g) (handed g))) (accepted-gate e)
+    ∙ length-told (rungs g) (length (compactBits (of g) (handed g))) (checked e .passed)
 
 pub compact-len-spec : {M : Type 1} → statement M
 compact-len-spec =

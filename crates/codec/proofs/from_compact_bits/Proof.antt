@@ -1,22 +1,22 @@
 -- `codec::from_compact_bits` meets its contract. Assumes nothing.
 use mathlib.Core.Path.{_≡_, sym, ap, _∙_}
-use mathlib.Core.Bool.{Bool}
-use mathlib.Core.List.{List, _∷_}
-use Prim.Native.Nat.{ℕ, _+_, _-_, _%_, _≤_}
+use mathlib.Core.Bool.{Bool, false}
+use mathlib.Core.List.{List}
+use Prim.Native.Nat.{ℕ, _-_, _%_, _≤_}
 use native.Mathlib.Omega.{arith}
 use borrow.Author.Needs.{needs}
 use lib.ListN.{length, drop}
 use Rattle.meaning.specs.Tables.{Table, table, tyAt}
 use Rattle.meaning.specs.Bits.{bitsOf, written}
 use Rattle.meaning.specs.Codecs.{Decoded, decoded, decodeCompact, isEarly, recordOf, consumed}
-use Rattle.meaning.specs.Ladder.{accepted, Rung, rung, ladder, Stream, stream-of, restOf, roomFor}
+use Rattle.meaning.specs.Ladder.{Rung, Stream, stream-of, restOf}
 use Rattle.meaning.specs.CodecCalls.{readRungs, compactIn}
 use Rattle.answers.specs.Verdicts.{doneOf}
 use Rattle.laws.proofs.CodecRoundTrips.{CompactRead, compact-read-write}
-use Rattle.codec.specs.Walks.{endOf}
-use Rattle.codec.proofs.Lent.{Streamed, streamed-on, stream-start, lent, stream-until, stream-rest, rest-length, stream-same}
-use Rattle.codec.proofs.Streams.{EndsAt, end-at, end-early}
-use Rattle.codec.proofs.Calls.{stopped, ended-early, no-room-read, read-done}
+use Rattle.bits.proofs.Lent.{lent}
+use Rattle.codec.proofs.Lent.{Streamed, streamed-on, stream-start, stream-until, stream-rest, rest-length, stream-same}
+use Rattle.codec.proofs.Readings.{whole}
+use Rattle.codec.proofs.Calls.{stopped-read, ended-early, no-room-read, read-done}
 use Rattle.codec.proofs.from_compact_bits.Statement.{statement}
 use Rattle.codec.proofs.from_compact_bits.Tie as tie
 
@@ -55,9 +55,7 @@ enum-known-passed c = search needs
 returns : tie.Need-returns
 returns c =
     let g = c .before .before .before in
-    let out = start g .args .out .now in
-    stopped (rungs g) (rung (isEarly (read g)) 8 0 ∷ roomFor (recordOf (read g)) out) (start g .args .position + consumed (read g)) out
-    (written (recordOf (read g)) out)
+    stopped-read (rungs g) (stream g) (read g) (start g .args .out .now)
     (ap doneOf (sym (c .before .passed .given .1)) ∙ g .stream .ensures)
 
 enum-told : tie.Need-enum-told
@@ -68,12 +66,10 @@ module _ (c : tie.After-enum-told) where
   abbrev gate : tie.After-stream
   gate = c .before .before
 
-  accepted-gate : accepted (tt {0}) ≡ ladder (rungs gate) (tt {0})
-  accepted-gate = ap doneOf (sym (c .enum-told .given .1)) ∙ gate .stream .ensures
-
   checked : Streamed (of gate) (start gate .args .bytes .now) (start gate .args .length) (start gate .args .position) (start gate .args .node)
   checked =
-      let a = start gate .args in streamed-on (of gate) (a .bytes .now) (a .length) (a .position) (a .node) accepted-gate
+      let a = start gate .args in
+      streamed-on (of gate) (a .bytes .now) (a .length) (a .position) (a .node) (ap doneOf (sym (c .enum-told .given .1)) ∙ gate .stream .ensures)
 
 sub-src : tie.Need-sub-src
 sub-src c = stream-start (checked c)
@@ -84,71 +80,66 @@ part-src-start c = stream-start (checked c)
 part-src-end : tie.Need-part-src-end
 part-src-end c = search needs
 
-sub-judge-compact : tie.Need-sub-judge-compact
-sub-judge-compact c = checked (c .before) .begins
+sub-until : tie.Need-sub-until
+sub-until c = checked (c .before) .begins
 
-add-judge-compact : tie.Need-add-judge-compact
-add-judge-compact c = let s = checked (c .before) in record { fits = omega (arith, s .begins, start (gate (c .before)) .fits .length .fits) }
+add-until : tie.Need-add-until
+add-until c = let s = checked (c .before) in record { fits = omega (arith, s .begins, start (gate (c .before)) .fits .length .fits) }
 
-judge-compact-requires : tie.Need-judge-compact-requires
-judge-compact-requires c κs = let s = checked (c .before) in (s .walk, (omega arith, stream-until s))
+ends-early-requires : tie.Need-ends-early-requires
+ends-early-requires c κs = let s = checked (c .before) in (s .walk, (omega arith, stream-until s))
 
-enum-known-next : tie.Need-enum-known-next
-enum-known-next c = search needs
-
-enum-told-2 : tie.Need-enum-told-2
-enum-told-2 c = search needs
-
--- The judge has answered.
-module _ (c : tie.After-judge-compact) where
+-- It is known whether the stream ends early.
+module _ (c : tie.After-ends-early) where
   abbrev entered : tie.After-enum-told
   entered = c .before .before
 
   abbrev call : tie.After-stream
   call = gate entered
 
-  verdict : c .judge-compact .result ≡ endOf (at call) (read call)
+  verdict : c .ends-early .result ≡ isEarly (read call)
   verdict =
-      c .judge-compact .ensures
-      ∙ ap (λ (v : List Bool). endOf (at call) (decodeCompact (tyAt (of call .columns) (start call .args .node)) v)) (stream-rest (checked entered))
+      c .ends-early .ensures
+      ∙ ap (λ (v : List Bool). isEarly (decodeCompact (tyAt (of call .columns) (start call .args .node)) v)) (stream-rest (checked entered))
 
 returns-2 : tie.Need-returns-2
 returns-2 c =
-    let j = c .before .before in
+    let j = c .before in
     let g = call j in
-    ended-early (rungs g) (accepted-gate (entered j)) (stream g) (read g) (start g .args .out .now)
-    (ap isEarly (end-early (at g) (read g) (sym (c .enum-told2 .given .1) ∙ verdict j)))
+    ended-early (rungs g) (checked (entered j) .passed) (stream g) (read g) (start g .args .out .now) (sym (verdict j) ∙ c .if1 .taken)
 
 -- The record is there whole.
-module _ (c : tie.After-next) where
-  abbrev judged : tie.After-judge-compact
-  judged = c .before .before
+module _ (c : tie.Else1) where
+  abbrev judged : tie.After-ends-early
+  judged = c .before
 
-  ended : EndsAt (at (call judged)) (c .next .given .0 .0) (read (call judged))
-  ended = end-at (at (call judged)) (c .next .given .0 .0) (read (call judged)) (sym (c .next .given .1) ∙ verdict judged)
+  not-early : isEarly (read (call judged)) ≡ false
+  not-early = sym (verdict judged) ∙ c .if1 .left
 
-  found : CompactRead (tyAt (of (call judged) .columns) (start (call judged) .args .node)) (restOf (stream (call judged))) (recordOf (read (call judged))) (consumed (read (call judged)))
+  found :
+      CompactRead (tyAt (of (call judged) .columns) (start (call judged) .args .node)) (restOf (stream (call judged))) (recordOf (read (call judged)))
+      (consumed (read (call judged)))
   found =
       let g = call judged in
-      compact-read-write (tyAt (of g .columns) (start g .args .node)) (restOf (stream g)) (recordOf (read g)) (consumed (read g)) (ended .whole)
+      compact-read-write (tyAt (of g .columns) (start g .args .node)) (restOf (stream g)) (recordOf (read g)) (consumed (read g)) (whole not-early)
 
   -- The same reading, of the bytes lent.
   abbrev again : Decoded
   again = decodeCompact (tyAt (of (call judged) .columns) (start (call judged) .args .node)) (drop (at (call judged)) (bitsOf (src (call judged))))
 
   same : again ≡ decoded (recordOf (read (call judged))) (consumed (read (call judged)))
-  same = stream-same (checked (entered judged)) (ended .whole)
+  same = stream-same (checked (entered judged)) (whole not-early)
 
-  within : at (call judged) + consumed again ≤ at (call judged) + (start (call judged) .args .length - start (call judged) .args .position)
+  within : consumed again ≤ start (call judged) .args .length - start (call judged) .args .position
   within = omega (arith, ap consumed same, found .enough, rest-length (checked (entered judged)))
 
 width-of-requires : tie.Need-width-of-requires
-width-of-requires c κs = checked (entered (judged (c .before))) .walk
+width-of-requires c κs = checked (entered (judged c)) .walk
 
 -- The width is known.
 module _ (c : tie.After-width-of) where
-  abbrev sized : tie.After-next
-  sized = c .before .before
+  abbrev sized : tie.Else1
+  sized = c .before
 
   record-wide : length (recordOf (read (call (judged sized)))) ≡ c .width-of .result
   record-wide = found sized .as-wide ∙ sym (c .width-of .ensures)
@@ -156,15 +147,15 @@ module _ (c : tie.After-width-of) where
   narrow : c .width-of .result ≤ 524288
   narrow = omega (arith, c .width-of .ensures, checked (entered (judged sized)) .walk .narrow)
 
-add-if1 : tie.Need-add-if1
-add-if1 c = record { fits = omega (arith, narrow c) }
+add-if2 : tie.Need-add-if2
+add-if2 c = record { fits = omega (arith, narrow c) }
 
 returns-3 : tie.Need-returns-3
 returns-3 c =
     let n = sized (c .before) in
     let g = call (judged n) in
-    no-room-read (rungs g) (accepted-gate (entered (judged n))) (stream g) (read g) (start g .args .out .now) (ap isEarly (ended n .whole))
-    (omega (arith, c .if1 .taken, record-wide (c .before)))
+    no-room-read (rungs g) (checked (entered (judged n)) .passed) (stream g) (read g) (start g .args .out .now) (not-early n)
+    (omega (arith, c .if2 .taken, record-wide (c .before)))
 
 read-record-requires : tie.Need-read-record-requires
 read-record-requires c κs =
@@ -179,7 +170,7 @@ read-record-requires c κs =
             inside = omega (arith, within n, stream-until s);
             counted = omega (arith, within n, s .begins, start (call (judged n)) .fits .length .fits);
           },
-          record { inside = omega (arith, c .before .if1 .left, w .width-of .ensures); counted = omega (arith, narrow w, w .width-of .ensures) },
+          record { inside = omega (arith, c .before .if2 .left, w .width-of .ensures); counted = omega (arith, narrow w, w .width-of .ensures) },
         ),
       ),
     )
@@ -192,14 +183,14 @@ module _ (c : tie.After-slice-known2) where
   abbrev begun : tie.After-width-of
   begun = done .before .before .before
 
-sub-t22 : tie.Need-sub-t22
-sub-t22 c = let n = sized (begun c) in omega (arith, ended n .ends)
+sub-t23 : tie.Need-sub-t23
+sub-t23 c = omega (arith, done c .read-record .ensures .0)
 
-add-t25 : tie.Need-add-t25
-add-t25 c =
+add-t27 : tie.Need-add-t27
+add-t27 c =
     let n = sized (begun c) in
     let s = checked (entered (judged n)) in
-    record { fits = omega (arith, ended n .ends, found n .enough, rest-length s, s .begins, start (call (judged n)) .fits .length .fits) }
+    record { fits = omega (arith, done c .read-record .ensures .0, within n, s .begins, start (call (judged n)) .fits .length .fits) }
 
 same-length : tie.Need-same-length
 same-length c = search needs
@@ -210,10 +201,10 @@ returns-4 c =
     let n = sized w in
     let g = call (judged n) in
     let out = start g .args .out .now in
-    read-done (rungs g) (accepted-gate (entered (judged n))) (stream g) (read g) out (ap isEarly (ended n .whole))
-    (omega (arith, done c .before .before .if1 .left, record-wide w))
-    (omega (arith, ended n .ends))
-    (done c .read-record .ensures ∙ ap (λ (d : Decoded). written (recordOf d) out) (same n))
+    read-done (rungs g) (checked (entered (judged n)) .passed) (stream g) (read g) out (not-early n)
+    (omega (arith, done c .before .before .if2 .left, record-wide w))
+    (omega (arith, done c .read-record .ensures .0, ap consumed (same n)))
+    (done c .read-record .ensures .1 ∙ ap (λ (d : Decoded). written (recordOf d) out) (same n))
 
 pub from-compact-bits-spec : {M : Type 1} → statement M
 from-compact-bits-spec =
@@ -226,17 +217,15 @@ from-compact-bits-spec =
     sub-src
     part-src-start
     part-src-end
-    sub-judge-compact
-    add-judge-compact
-    judge-compact-requires
-    enum-known-next
-    enum-told-2
+    sub-until
+    add-until
+    ends-early-requires
     returns-2
     width-of-requires
-    add-if1
+    add-if2
     returns-3
     read-record-requires
-    sub-t22
-    add-t25
+    sub-t23
+    add-t27
     same-length
     returns-4)

@@ -1,7 +1,7 @@
 -- `codec::from_padded_bits` meets its contract. Assumes nothing.
 use mathlib.Core.Path.{_≡_, sym, ap, _∙_}
 use mathlib.Core.Bool.{Bool}
-use mathlib.Core.List.{List, _∷_}
+use mathlib.Core.List.{List}
 use Prim.Native.Nat.{ℕ, _+_, _-_, _%_, _≤_}
 use native.Mathlib.Omega.{arith}
 use borrow.Author.Needs.{needs}
@@ -11,12 +11,13 @@ use Rattle.meaning.specs.Types.{bits}
 use Rattle.meaning.specs.Tables.{Table, table, tyAt}
 use Rattle.meaning.specs.Bits.{bitsOf, written}
 use Rattle.meaning.specs.Codecs.{Decoded, decoded, isEarly, recordOf, consumed}
-use Rattle.meaning.specs.Ladder.{accepted, Rung, rung, ladder, Stream, stream-of, roomFor}
+use Rattle.meaning.specs.Ladder.{Rung, Stream, stream-of}
 use Rattle.meaning.specs.CodecCalls.{readRungs, paddedIn}
 use Rattle.answers.specs.Verdicts.{doneOf}
 use Rattle.bits.proofs.OfBytes.{length-bitsOf}
-use Rattle.codec.proofs.Lent.{Streamed, streamed-on, stream-start, lent, padded-short, padded-run, padded-span}
-use Rattle.codec.proofs.Calls.{stopped, ended-early, no-room-read, read-done}
+use Rattle.bits.proofs.Lent.{lent}
+use Rattle.codec.proofs.Lent.{Streamed, streamed-on, stream-start, padded-short, padded-run, padded-span}
+use Rattle.codec.proofs.Calls.{stopped-read, ended-early, no-room-read, read-done}
 use Rattle.codec.proofs.from_padded_bits.Statement.{statement}
 use Rattle.codec.proofs.from_padded_bits.Tie as tie
 
@@ -55,9 +56,7 @@ enum-known-passed c = search needs
 returns : tie.Need-returns
 returns c =
     let g = c .before .before .before in
-    let out = start g .args .out .now in
-    stopped (rungs g) (rung (isEarly (read g)) 8 0 ∷ roomFor (recordOf (read g)) out) (start g .args .position + consumed (read g)) out
-    (written (recordOf (read g)) out)
+    stopped-read (rungs g) (stream g) (read g) (start g .args .out .now)
     (ap doneOf (sym (c .before .passed .given .1)) ∙ g .stream .ensures)
 
 enum-told : tie.Need-enum-told
@@ -68,12 +67,10 @@ module _ (c : tie.After-enum-told) where
   abbrev gate : tie.After-stream
   gate = c .before .before
 
-  accepted-gate : accepted (tt {0}) ≡ ladder (rungs gate) (tt {0})
-  accepted-gate = ap doneOf (sym (c .enum-told .given .1)) ∙ gate .stream .ensures
-
   checked : Streamed (of gate) (start gate .args .bytes .now) (start gate .args .length) (start gate .args .position) (start gate .args .node)
   checked =
-      let a = start gate .args in streamed-on (of gate) (a .bytes .now) (a .length) (a .position) (a .node) accepted-gate
+      let a = start gate .args in
+      streamed-on (of gate) (a .bytes .now) (a .length) (a .position) (a .node) (ap doneOf (sym (c .enum-told .given .1)) ∙ gate .stream .ensures)
 
 sub-src : tie.Need-sub-src
 sub-src c = stream-start (checked c)
@@ -99,13 +96,13 @@ width-of-requires : tie.Need-width-of-requires
 width-of-requires c κs = checked (c .before) .walk
 
 sub-if1 : tie.Need-sub-if1
-sub-if1 c = checked (entered c) .begins
+sub-if1 c = omega (arith, checked (entered c) .begins)
 
 returns-2 : tie.Need-returns-2
 returns-2 c =
     let w = c .before in
     let g = call w in
-    ended-early (rungs g) (accepted-gate (entered w)) (stream g) (read g) (start g .args .out .now)
+    ended-early (rungs g) (checked (entered w) .passed) (stream g) (read g) (start g .args .out .now)
     (ap isEarly (padded-short (checked (entered w)) (omega (arith, c .if1 .taken, w .width-of .ensures))))
 
 -- The stream has enough bits.
@@ -136,7 +133,7 @@ returns-3 c =
     let e = c .before in
     let w = sized e in
     let g = call w in
-    no-room-read (rungs g) (accepted-gate (entered w)) (stream g) (read g) (start g .args .out .now) (ap isEarly (run e))
+    no-room-read (rungs g) (checked (entered w) .passed) (stream g) (read g) (start g .args .out .now) (ap isEarly (run e))
     (omega (arith, c .if2 .taken, w .width-of .ensures, record-wide e))
 
 copy-record-requires : tie.Need-copy-record-requires
@@ -175,7 +172,7 @@ returns-4 c =
     let g = call w in
     let out = start g .args .out .now in
     let from = drop (at g) (bitsOf (src g)) in
-    read-done (rungs g) (accepted-gate (entered w)) (stream g) (read g) out (ap isEarly (run e))
+    read-done (rungs g) (checked (entered w) .passed) (stream g) (read g) out (ap isEarly (run e))
     (omega (arith, copied c .before .before .if2 .left, w .width-of .ensures, record-wide e))
     (ap (λ (k : ℕ). start g .args .position + k) (w .width-of .ensures ∙ sym (ap consumed (run e))))
     (copied c .copy-record .ensures

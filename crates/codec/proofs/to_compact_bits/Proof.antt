@@ -5,16 +5,18 @@ use mathlib.Core.List.{List}
 use Prim.Native.Nat.{ℕ, _%_, _≤_}
 use native.Mathlib.Omega.{arith}
 use borrow.Author.Needs.{needs}
+use borrow.Author.Tests.{not-true, not-false, leb-true, leb-false}
 use lib.ListN.{length, drop}
 use Rattle.meaning.specs.Tables.{Table, table, tyAt}
-use Rattle.meaning.specs.Bits.{bitsOf, written}
-use Rattle.meaning.specs.Ladder.{accepted, Rung, ladder, Record, record-of, roomFor}
+use Rattle.meaning.specs.Bits.{bitsOf, room, written}
+use Rattle.meaning.specs.Ladder.{Rung, Record, record-of}
 use Rattle.answers.specs.Verdicts.{doneOf}
 use Rattle.meaning.specs.Records.{compact}
 use Rattle.meaning.proofs.Records.{compact-most}
 use Rattle.meaning.specs.CodecCalls.{writeRungs, compactBits}
-use Rattle.codec.proofs.Lent.{Handed, handed-on, lent, record-start, record-span, record-compact}
-use Rattle.codec.proofs.Calls.{stopped, no-room, made-done}
+use Rattle.bits.proofs.Lent.{lent}
+use Rattle.codec.proofs.Lent.{Handed, handed-on, record-start, record-span, record-compact}
+use Rattle.codec.proofs.Calls.{stopped-made, no-room, made-done}
 use Rattle.codec.proofs.to_compact_bits.Statement.{statement}
 use Rattle.codec.proofs.to_compact_bits.Tie as tie
 
@@ -53,8 +55,7 @@ enum-known-passed c = search needs
 returns : tie.Need-returns
 returns c =
     let g = c .before .before .before in
-    let out = start g .args .out .now in
-    stopped (rungs g) (roomFor (all g) out) (length (all g)) out (written (all g) out)
+    stopped-made (rungs g) (all g) (start g .args .out .now)
     (ap doneOf (sym (c .before .passed .given .1)) ∙ g .«record» .ensures)
 
 enum-told : tie.Need-enum-told
@@ -65,11 +66,10 @@ module _ (c : tie.After-enum-told) where
   abbrev gate : tie.After-record
   gate = c .before .before
 
-  accepted-gate : accepted (tt {0}) ≡ ladder (rungs gate) (tt {0})
-  accepted-gate = ap doneOf (sym (c .enum-told .given .1)) ∙ gate .«record» .ensures
-
   checked : Handed (of gate) (start gate .args .bytes .now) (start gate .args .offset) (start gate .args .node)
-  checked = let a = start gate .args in handed-on (of gate) (a .bytes .now) (a .offset) (a .node) accepted-gate
+  checked =
+      let a = start gate .args in
+      handed-on (of gate) (a .bytes .now) (a .offset) (a .node) (ap doneOf (sym (c .enum-told .given .1)) ∙ gate .«record» .ensures)
 
 sub-src : tie.Need-sub-src
 sub-src c = record-start (checked c)
@@ -80,11 +80,11 @@ part-src-start c = record-start (checked c)
 part-src-end : tie.Need-part-src-end
 part-src-end c = search needs
 
-count-compact-requires : tie.Need-count-compact-requires
-count-compact-requires c κs = let h = checked (c .before) in (h .walk, record-span h)
+compact-fits-requires : tie.Need-compact-fits-requires
+compact-fits-requires c κs = let h = checked (c .before) in (h .walk, record-span h)
 
--- The compact bits are counted.
-module _ (c : tie.After-count-compact) where
+-- It is known whether there is room.
+module _ (c : tie.After-compact-fits) where
   abbrev entered : tie.After-enum-told
   entered = c .before .before
 
@@ -95,37 +95,40 @@ module _ (c : tie.After-count-compact) where
   abbrev again : List Bool
   again = compact (tyAt (of call .columns) (start call .args .node)) (drop (at call) (bitsOf (src call)))
 
-  counted : c .count-compact .result ≡ length (all call)
-  counted = c .count-compact .ensures ∙ ap length (record-compact (checked entered))
+  same : again ≡ all call
+  same = record-compact (checked entered)
 
-  few : c .count-compact .result ≤ 524288
+  few : length again ≤ 524288
   few =
       omega (
         arith,
-        c .count-compact .ensures,
         compact-most (tyAt (of call .columns) (start call .args .node)) (drop (at call) (bitsOf (src call))),
         checked entered .walk .narrow,
       )
 
-add-if1 : tie.Need-add-if1
-add-if1 c = record { fits = omega (arith, few c) }
-
 returns-2 : tie.Need-returns-2
 returns-2 c =
-    let n = c .before in
-    let g = call n in
-    no-room (rungs g) (accepted-gate (entered n)) (all g) (start g .args .out .now) (omega (arith, c .if1 .taken, counted n))
+    let f = c .before in
+    let g = call f in
+    let out = start g .args .out .now in
+    let short = leb-false (room (length (again f))) (length out) (sym (f .compact-fits .ensures) ∙ not-true (f .compact-fits .result) (c .if1 .taken)) in
+    no-room (rungs g) (checked (entered f) .passed) (all g) out (omega (arith, short, ap length (same f)))
+
+-- There is room.
+module _ (c : tie.Else1) where
+  abbrev fitting : tie.After-compact-fits
+  fitting = c .before
+
+  has-room : room (length (again fitting)) ≤ length (start (call fitting) .args .out .now)
+  has-room =
+      leb-true (room (length (again fitting))) (length (start (call fitting) .args .out .now))
+      (sym (fitting .compact-fits .ensures) ∙ not-false (fitting .compact-fits .result) (c .if1 .left))
 
 write-record-requires : tie.Need-write-record-requires
 write-record-requires c κs =
-    let n = c .before .before in
-    let h = checked (entered n) in (
-      h .walk,
-      (
-        record-span h,
-        record { inside = omega (arith, c .before .if1 .left, n .count-compact .ensures); counted = omega (arith, few n, n .count-compact .ensures) },
-      ),
-    )
+    let f = fitting (c .before) in
+    let h = checked (entered f) in
+    (h .walk, (record-span h, record { inside = omega (arith, has-room (c .before)); counted = omega (arith, few f) }))
 
 same-length : tie.Need-same-length
 same-length c = search needs
@@ -133,11 +136,12 @@ same-length c = search needs
 returns-3 : tie.Need-returns-3
 returns-3 c =
     let w = c .before .before in
-    let n = w .before .before .before in
-    let g = call n in
+    let f = fitting (w .before .before) in
+    let g = call f in
     let out = start g .args .out .now in
-    made-done (rungs g) (accepted-gate (entered n)) (all g) out (omega (arith, w .before .before .if1 .left, counted n)) (counted n)
-    (w .write-record .ensures ∙ ap (λ (v : List Bool). written v out) (record-compact (checked (entered n))))
+    made-done (rungs g) (checked (entered f) .passed) (all g) out (omega (arith, has-room (w .before .before), ap length (same f)))
+    (w .write-record .ensures .0 ∙ ap length (same f))
+    (w .write-record .ensures .1 ∙ ap (λ (v : List Bool). written v out) (same f))
 
 pub to-compact-bits-spec : {M : Type 1} → statement M
 to-compact-bits-spec =
@@ -150,8 +154,7 @@ to-compact-bits-spec =
     sub-src
     part-src-start
     part-src-end
-    count-compact-requires
-    add-if1
+    compact-fits-requires
     returns-2
     write-record-requires
     same-length

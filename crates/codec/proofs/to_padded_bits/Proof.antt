@@ -8,11 +8,12 @@ use borrow.Author.Needs.{needs}
 use lib.ListN.{length, take, drop}
 use Rattle.meaning.specs.Tables.{Table, table}
 use Rattle.meaning.specs.Bits.{bitsOf, written}
-use Rattle.meaning.specs.Ladder.{accepted, Rung, ladder, Record, record-of, recordBits, roomFor}
+use Rattle.meaning.specs.Ladder.{Rung, Record, record-of, recordBits}
 use Rattle.answers.specs.Verdicts.{doneOf}
 use Rattle.meaning.specs.CodecCalls.{writeRungs}
-use Rattle.codec.proofs.Lent.{Handed, handed-on, lent, record-start, record-span, record-padded, record-width}
-use Rattle.codec.proofs.Calls.{stopped, no-room, made-done}
+use Rattle.bits.proofs.Lent.{lent}
+use Rattle.codec.proofs.Lent.{Handed, handed-on, record-start, record-span, record-padded, record-width}
+use Rattle.codec.proofs.Calls.{stopped-made, no-room, made-done}
 use Rattle.codec.proofs.to_padded_bits.Statement.{statement}
 use Rattle.codec.proofs.to_padded_bits.Tie as tie
 
@@ -51,8 +52,7 @@ enum-known-passed c = search needs
 returns : tie.Need-returns
 returns c =
     let g = c .before .before .before in
-    let out = start g .args .out .now in
-    stopped (rungs g) (roomFor (all g) out) (length (all g)) out (written (all g) out)
+    stopped-made (rungs g) (all g) (start g .args .out .now)
     (ap doneOf (sym (c .before .passed .given .1)) ∙ g .«record» .ensures)
 
 enum-told : tie.Need-enum-told
@@ -63,11 +63,10 @@ module _ (c : tie.After-enum-told) where
   abbrev gate : tie.After-record
   gate = c .before .before
 
-  accepted-gate : accepted (tt {0}) ≡ ladder (rungs gate) (tt {0})
-  accepted-gate = ap doneOf (sym (c .enum-told .given .1)) ∙ gate .«record» .ensures
-
   checked : Handed (of gate) (start gate .args .bytes .now) (start gate .args .offset) (start gate .args .node)
-  checked = let a = start gate .args in handed-on (of gate) (a .bytes .now) (a .offset) (a .node) accepted-gate
+  checked =
+      let a = start gate .args in
+      handed-on (of gate) (a .bytes .now) (a .offset) (a .node) (ap doneOf (sym (c .enum-told .given .1)) ∙ gate .«record» .ensures)
 
 sub-src : tie.Need-sub-src
 sub-src c = record-start (checked c)
@@ -102,7 +101,7 @@ returns-2 : tie.Need-returns-2
 returns-2 c =
     let w = c .before in
     let g = call w in
-    no-room (rungs g) (accepted-gate (entered w)) (all g) (start g .args .out .now) (omega (arith, c .if1 .taken, counted w))
+    no-room (rungs g) (checked (entered w) .passed) (all g) (start g .args .out .now) (omega (arith, c .if1 .taken, counted w))
 
 copy-record-requires : tie.Need-copy-record-requires
 copy-record-requires c κs =
@@ -122,7 +121,7 @@ returns-3 c =
     let g = call w in
     let out = start g .args .out .now in
     let from = drop (at g) (bitsOf (src g)) in
-    made-done (rungs g) (accepted-gate (entered w)) (all g) out (omega (arith, d .before .before .if1 .left, counted w)) (counted w)
+    made-done (rungs g) (checked (entered w) .passed) (all g) out (omega (arith, d .before .before .if1 .left, counted w)) (counted w)
     (d .copy-record .ensures
     ∙ ap (λ (v : List Bool). written v out) (ap (λ (k : ℕ). take k from) (w .width-of .ensures) ∙ record-padded (checked (entered w))))
 

@@ -1,5 +1,7 @@
--- `codec::decode::read_compact` meets its contract. The measure is the node's number. Assumes nothing.
-use mathlib.Core.Path.{_≡_, sym, ap, _∙_, subst}
+-- `codec::decode::read_compact` meets its contract. The measure of its calls is the node's number, and that of its loop the number of the node that
+-- it has come to. The loop's invariant: whoever reads what that node has, has read the whole. Assumes nothing.
+use mathlib.Core.Path.{_≡_, refl, sym, ap, _∙_, subst}
+use mathlib.Core.Logic.{⊎-elim}
 use mathlib.Core.Bool.{Bool, true, false}
 use mathlib.Core.List.{List}
 use Prim.Native.Nat.{ℕ, _+_, _-_, _<_, _≤_}
@@ -15,11 +17,12 @@ use Rattle.meaning.specs.Bits.{bitsOf}
 use Rattle.meaning.specs.Codecs.{Decoded, decoded, decodeCompact, isEarly, recordOf, consumed}
 use Rattle.bits.proofs.OfBytes.{length-bitsOf}
 use Rattle.laws.proofs.CodecRoundTrips.{compact-read-write}
-use Rattle.codec.specs.Walks.{Span}
-use Rattle.codec.proofs.Nodes.{Here, Taken, Parts, own-width, taken, parts, left-span, right-span}
+use Rattle.codec.specs.Walks.{Span, ReadTo}
+use Rattle.codec.proofs.Nodes.{Here, Taken, Parts, at-left, own-width, taken, parts, left-span, right-span}
 use Rattle.codec.proofs.Writing.{span-run, span-kept}
 use Rattle.codec.proofs.Streams.{decode-run, decode-tagged, decode-both}
-use Rattle.codec.proofs.Readings.{whole, run-enough, tag-enough, first-whole, Tagged, tagged-whole, Joined, joined-whole, read-run, read-tag, read-both}
+use Rattle.codec.proofs.Readings.{whole, run-enough, tag-enough, first-whole, Tagged, tagged-whole, Joined, joined-whole, read-at, read-run, read-tag, read-both}
+use Rattle.codec.proofs.Turns.{Reading}
 use Rattle.codec.proofs.decode.read_compact.Reads as own
 use Rattle.codec.proofs.decode.read_compact.Kinds as kinds
 use Rattle.codec.proofs.decode.+read_compact.Lts-read_compact as lts
@@ -61,316 +64,366 @@ called t = (
   own.Post,
 )
 
+abbrev Inv-loop : lts.InvT-loop
+Inv-loop kinds lefts rights widths sizes padded classes count src at node out₀ to here₀ from₀ next₀ out here from next =
+    Reading (table kinds lefts rights widths sizes padded classes count) src at node out₀ to from here out next
+
+abbrev μ-loop : lts.MeasureT-loop
+μ-loop kinds lefts rights widths sizes padded classes count src at node out₀ to here₀ from₀ next₀ out here from next = here
+
+loop-holds : (t : ℕ) → lts.Need-loop-holds (called t) (given t) own.Post Inv-loop μ-loop
+loop-holds t c =
+    let b = c .before .before .before .before .before .before .before .before .before in
+    let p = b .pre .1 in
+    record {
+      walk = p .0;
+      falls = omega arith;
+      not-early = p .1 .0;
+      span = p .1 .1 .0;
+      room = p .1 .1 .1;
+      kept = refl;
+      whole = λ r. r;
+    }
+
+node-at-requires : (t : ℕ) → lts.Need-node-at-requires (called t) (given t) own.Post Inv-loop μ-loop
+node-at-requires t c κs = let w = c .loop .inv .walk in (w .sound, w .present)
+
 -- The node that was read, at any place after that.
-module _ (t : ℕ) (c : lts.After-node-at (called t) (given t) own.Post) where
-  abbrev start : lts.Start (called t) (given t) own.Post
-  start = c .before .before .before .before .before .before .before .before .before .before
+module _ (t : ℕ) (c : lts.After-node-at (called t) (given t) own.Post Inv-loop μ-loop) where
+  abbrev turn : lts.At-loop (called t) (given t) own.Post Inv-loop μ-loop
+  turn = c .before
+
+  abbrev start : lts.Start (called t) (given t) own.Post Inv-loop μ-loop
+  start = turn .before .before .before .before .before .before .before .before .before .before
 
   abbrev of : Table
   of =
       let a = start .args in
       table (a .kinds .now) (a .lefts .now) (a .rights .now) (a .widths .now) (a .sizes .now) (a .padded .now) (a .classes .now) (a .count)
 
-  here : Here of (start .args .node) (c .node-at .result)
-  here = record { walk = start .pre .1 .0; reads = c .node-at .ensures }
+  here : Here of (turn .loop .here) (c .node-at .result)
+  here = record { walk = turn .loop .inv .walk; reads = c .node-at .ensures }
 
   abbrev stream : List Bool
   stream = bitsOf (start .args .src .now)
 
-  -- What is read.
-  abbrev all : Decoded
-  all = decodeCompact (tyAt (of .columns) (start .args .node)) (drop (start .args .at) stream)
+  -- What is still to be read.
+  abbrev left-over : Decoded
+  left-over = decodeCompact (tyAt (of .columns) (turn .loop .here)) (drop (turn .loop .from) stream)
 
-  out-inside : start .args .to + bits (tyAt (of .columns) (start .args .node)) ≤ length (bitsOf (start .args .out .now))
-  out-inside = omega (arith, start .pre .1 .1 .1 .1 .inside, length-bitsOf (start .args .out .now))
-
-node-at-requires : (t : ℕ) → lts.Need-node-at-requires (called t) (given t) own.Post
-node-at-requires t c κs =
-    let b = c .before .before .before .before .before .before .before .before .before in (b .pre .1 .0 .sound, b .pre .1 .0 .present)
+  out-inside : turn .loop .next + bits (tyAt (of .columns) (turn .loop .here)) ≤ length (bitsOf (turn .loop .out))
+  out-inside = omega (arith, turn .loop .inv .room .inside, length-bitsOf (turn .loop .out))
 
 -- A node without padding.
-module _ (t : ℕ) (c : lts.Then1 (called t) (given t) own.Post) where
-  abbrev single : lts.After-node-at (called t) (given t) own.Post
+module _ (t : ℕ) (c : lts.Then1 (called t) (given t) own.Post Inv-loop μ-loop) where
+  abbrev single : lts.After-node-at (called t) (given t) own.Post Inv-loop μ-loop
   single = c .before .before
 
-  enough : single .node-at .result .width ≤ length (stream t single) - start t single .args .at
+  enough : single .node-at .result .width ≤ length (stream t single) - turn t single .loop .from
   enough =
-      run-enough (here t single) (stream t single) (start t single .args .at) (start t single .pre .1 .1 .0)
+      run-enough (here t single) (stream t single) (turn t single .loop .from) (turn t single .loop .inv .not-early)
       (not-true (single .node-at .result .padded) (c .if1 .taken))
 
-  run : all t single ≡ decoded (take (single .node-at .result .width) (drop (start t single .args .at) (stream t single))) (single .node-at .result .width)
+  run : left-over t single
+      ≡ decoded (take (single .node-at .result .width) (drop (turn t single .loop .from) (stream t single))) (single .node-at .result .width)
   run =
-      decode-run (here t single) (stream t single) (start t single .args .at) (not-true (single .node-at .result .padded) (c .if1 .taken)) enough
+      decode-run (here t single) (stream t single) (turn t single .loop .from) (not-true (single .node-at .result .padded) (c .if1 .taken)) enough
 
-copy-bits-requires : (t : ℕ) → lts.Need-copy-bits-requires (called t) (given t) own.Post
+copy-bits-requires : (t : ℕ) → lts.Need-copy-bits-requires (called t) (given t) own.Post Inv-loop μ-loop
 copy-bits-requires t c κs =
     let n = single t (c .before) in
-    let b = start t n in
-    (span-run (sym (ap consumed (run t (c .before)))) (b .pre .1 .1 .1 .0), span-run (own-width (here t n)) (b .pre .1 .1 .1 .1))
+    let i = turn t n .loop .inv in
+    (span-run (sym (ap consumed (run t (c .before)))) (i .span), span-run (own-width (here t n)) (i .room))
 
-add-result : (t : ℕ) → lts.Need-add-result (called t) (given t) own.Post
+add-result : (t : ℕ) → lts.Need-add-result (called t) (given t) own.Post Inv-loop μ-loop
 add-result t c =
     let d = c .before .before .before .before in
-    record { fits = omega (arith, start t (single t d) .pre .1 .1 .1 .0 .counted, ap consumed (run t d)) }
+    record { fits = omega (arith, turn t (single t d) .loop .inv .span .counted, ap consumed (run t d)) }
 
-same-length : (t : ℕ) → lts.Need-same-length (called t) (given t) own.Post
-same-length t c = search needs
+same-length : (t : ℕ) → lts.Need-same-length (called t) (given t) own.Post Inv-loop μ-loop
+same-length t c =
+    c .before .before .copy-bits .kept .1 .1 .0 ∙ turn t (single t (c .before .before .before .before)) .loop .inv .kept
 
-returns : (t : ℕ) → lts.Need-returns (called t) (given t) own.Post
+returns : (t : ℕ) → lts.Need-returns (called t) (given t) own.Post Inv-loop μ-loop
 returns t c =
     let d = c .before .before .before .before in
     let n = single t d in
-    let rest = drop (start t n .args .at) (stream t n) in
-    read-run rest (run t d) (omega (arith, enough t d, length-drop (start t n .args .at) (stream t n))) (c .before .before .copy-bits .ensures)
+    let l = turn t n .loop in
+    l .inv .whole
+    (read-run (drop (l .from) (stream t n)) (run t d) (omega (arith, enough t d, length-drop (l .from) (stream t n)))
+    (c .before .before .copy-bits .ensures))
 
-bit-at-requires : (t : ℕ) → lts.Need-bit-at-requires (called t) (given t) own.Post
+bit-at-requires : (t : ℕ) → lts.Need-bit-at-requires (called t) (given t) own.Post Inv-loop μ-loop
 bit-at-requires t c κs =
     let n = c .before .before .before .before in
-    let b = start t n in
-    omega (arith, tag-enough (here t n) (stream t n) (b .args .at) (b .pre .1 .1 .0) (c .if2 .taken), length-bitsOf (b .args .src .now))
+    let l = turn t n .loop in
+    omega (arith, tag-enough (here t n) (stream t n) (l .from) (l .inv .not-early) (c .if2 .taken), length-bitsOf (start t n .args .src .now))
 
-side-of-requires : (t : ℕ) → lts.Need-side-of-requires (called t) (given t) own.Post
+side-of-requires : (t : ℕ) → lts.Need-side-of-requires (called t) (given t) own.Post Inv-loop μ-loop
 side-of-requires t c κs = search needs
 
 -- The side that the tag takes, what is read there, and where it goes.
-module _ (t : ℕ) (c : lts.After-side-of (called t) (given t) own.Post) where
-  abbrev tagged : lts.After-node-at (called t) (given t) own.Post
+module _ (t : ℕ) (c : lts.After-side-of (called t) (given t) own.Post Inv-loop μ-loop) where
+  abbrev tagged : lts.After-node-at (called t) (given t) own.Post Inv-loop μ-loop
   tagged = c .before .before .before .before .before .before
 
   abbrev pad : ℕ
   pad = tagged .node-at .result .width - c .side-of .result .width - 1
 
   abbrev rest : Decoded
-  rest = decodeCompact (tyAt (of t tagged .columns) (c .side-of .result .node)) (drop (start t tagged .args .at + 1) (stream t tagged))
+  rest = decodeCompact (tyAt (of t tagged .columns) (c .side-of .result .node)) (drop (turn t tagged .loop .from + 1) (stream t tagged))
 
   sum-padded : tagged .node-at .result .padded ≡ true
   sum-padded = not-false (tagged .node-at .result .padded) (c .before .before .before .before .if1 .left)
 
-  side : Taken (of t tagged) (start t tagged .args .node) (tagged .node-at .result) (c .side-of .result)
+  side : Taken (of t tagged) (turn t tagged .loop .here) (tagged .node-at .result) (c .side-of .result)
   side = taken (here t tagged) sum-padded (c .before .before .if2 .taken) (c .before .bit-at .result) (c .side-of .ensures)
 
-  pieces : Tagged (all t tagged) rest (c .before .bit-at .result) pad
+  pieces : Tagged (left-over t tagged) rest (c .before .bit-at .result) pad
   pieces =
-      let b = start t tagged in
+      let l = turn t tagged .loop in
       tagged-whole rest
-      (decode-tagged (here t tagged) (stream t tagged) (b .args .at) sum-padded (c .before .before .if2 .taken)
-      (tag-enough (here t tagged) (stream t tagged) (b .args .at) (b .pre .1 .1 .0) (c .before .before .if2 .taken))
+      (decode-tagged (here t tagged) (stream t tagged) (l .from) sum-padded (c .before .before .if2 .taken)
+      (tag-enough (here t tagged) (stream t tagged) (l .from) (l .inv .not-early) (c .before .before .if2 .taken))
       (c .side-of .ensures)
       (c .before .bit-at .ensures))
-      (b .pre .1 .1 .0)
+      (l .inv .not-early)
 
-  room : start t tagged .args .to + 1 + pad + bits (tyAt (of t tagged .columns) (c .side-of .result .node))
-      ≡ start t tagged .args .to + bits (tyAt (of t tagged .columns) (start t tagged .args .node))
+  room : turn t tagged .loop .next + 1 + pad + bits (tyAt (of t tagged .columns) (c .side-of .result .node))
+      ≡ turn t tagged .loop .next + bits (tyAt (of t tagged .columns) (turn t tagged .loop .here))
   room = omega (arith, own-width (here t tagged), side .room, side .wide)
 
-sub-pad : (t : ℕ) → lts.Need-sub-pad (called t) (given t) own.Post
+sub-pad : (t : ℕ) → lts.Need-sub-pad (called t) (given t) own.Post Inv-loop μ-loop
 sub-pad t c = let x = side t (c .before .before) in omega (arith, x .room)
 
-sub-pad-2 : (t : ℕ) → lts.Need-sub-pad-2 (called t) (given t) own.Post
+sub-pad-2 : (t : ℕ) → lts.Need-sub-pad-2 (called t) (given t) own.Post Inv-loop μ-loop
 sub-pad-2 t c = let x = side t (c .before .before) in omega (arith, x .room)
 
-put-bit-requires : (t : ℕ) → lts.Need-put-bit-requires (called t) (given t) own.Post
+put-bit-requires : (t : ℕ) → lts.Need-put-bit-requires (called t) (given t) own.Post Inv-loop μ-loop
 put-bit-requires t c κs =
-    let d = c .before .before .before in omega (arith, room t d, start t (tagged t d) .pre .1 .1 .1 .1 .inside)
+    let d = c .before .before .before in omega (arith, room t d, turn t (tagged t d) .loop .inv .room .inside)
 
 -- The tag has been put.
-module _ (t : ℕ) (c : lts.After-put-bit (called t) (given t) own.Post) where
-  abbrev put : lts.After-side-of (called t) (given t) own.Post
+module _ (t : ℕ) (c : lts.After-put-bit (called t) (given t) own.Post Inv-loop μ-loop) where
+  abbrev put : lts.After-side-of (called t) (given t) own.Post Inv-loop μ-loop
   put = c .before .before .before .before
 
-add-clear-bits : (t : ℕ) → lts.Need-add-clear-bits (called t) (given t) own.Post
+add-clear-bits : (t : ℕ) → lts.Need-add-clear-bits (called t) (given t) own.Post Inv-loop μ-loop
 add-clear-bits t c =
-    let d = put t (c .before .before .before) in record { fits = omega (arith, room t d, start t (tagged t d) .pre .1 .1 .1 .1 .counted) }
+    let d = put t (c .before .before .before) in record { fits = omega (arith, room t d, turn t (tagged t d) .loop .inv .room .counted) }
 
-clear-bits-requires : (t : ℕ) → lts.Need-clear-bits-requires (called t) (given t) own.Post
+clear-bits-requires : (t : ℕ) → lts.Need-clear-bits-requires (called t) (given t) own.Post Inv-loop μ-loop
 clear-bits-requires t c κs =
     let p = c .before .before .before in
     let d = put t p in
-    let i = start t (tagged t d) .pre .1 .1 .1 .1 in
+    let i = turn t (tagged t d) .loop .inv .room in
     record { inside = omega (arith, room t d, i .inside, p .put-bit .kept .0); counted = omega (arith, room t d, i .counted) }
 
 -- The padding has been cleared.
-module _ (t : ℕ) (c : lts.After-clear-bits (called t) (given t) own.Post) where
-  abbrev cleared : lts.After-put-bit (called t) (given t) own.Post
+module _ (t : ℕ) (c : lts.After-clear-bits (called t) (given t) own.Post Inv-loop μ-loop) where
+  abbrev cleared : lts.After-put-bit (called t) (given t) own.Post Inv-loop μ-loop
   cleared = c .before .before .before .before
 
-  kept : length (c .clear-bits .last .0) ≡ length (start t (tagged t (put t cleared)) .args .out .now)
+  kept : length (c .clear-bits .last .0) ≡ length (turn t (tagged t (put t cleared)) .loop .out)
   kept = c .clear-bits .kept .0 ∙ cleared .put-bit .kept .0
 
-add-read-compact : (t : ℕ) → lts.Need-add-read-compact (called t) (given t) own.Post
-add-read-compact t c =
+add-from : (t : ℕ) → lts.Need-add-from (called t) (given t) own.Post Inv-loop μ-loop
+add-from t c =
     let d = put t (cleared t (c .before .before)) in
-    record { fits = omega (arith, pieces t d .count-is, start t (tagged t d) .pre .1 .1 .1 .0 .counted) }
+    record { fits = omega (arith, pieces t d .count-is, turn t (tagged t d) .loop .inv .span .counted) }
 
-add-read-compact-2 : (t : ℕ) → lts.Need-add-read-compact-2 (called t) (given t) own.Post
-add-read-compact-2 t c =
-    let d = put t (cleared t (c .before .before .before)) in
-    record { fits = omega (arith, room t d, start t (tagged t d) .pre .1 .1 .1 .1 .counted) }
+add-next : (t : ℕ) → lts.Need-add-next (called t) (given t) own.Post Inv-loop μ-loop
+add-next t c =
+    let d = put t (cleared t (c .before .before)) in record { fits = omega (arith, room t d, turn t (tagged t d) .loop .inv .room .counted) }
 
-add-read-compact-3 : (t : ℕ) → lts.Need-add-read-compact-3 (called t) (given t) own.Post
-add-read-compact-3 t c =
-    let d = put t (cleared t (c .before .before .before)) in
-    record { fits = omega (arith, room t d, start t (tagged t d) .pre .1 .1 .1 .1 .counted) }
+add-next-2 : (t : ℕ) → lts.Need-add-next-2 (called t) (given t) own.Post Inv-loop μ-loop
+add-next-2 t c =
+    let d = put t (cleared t (c .before .before)) in record { fits = omega (arith, room t d, turn t (tagged t d) .loop .inv .room .counted) }
 
-read-compact-requires : (t : ℕ) → lts.Need-read-compact-requires (called t) (given t) own.Post
-read-compact-requires t c κs =
-    let e = c .before .before .before in
-    let d = put t (cleared t e) in
-    let b = start t (tagged t d) in
-    let x = side t d in
-    let i = b .pre .1 .1 .1 .0 in
-    let o = b .pre .1 .1 .1 .1 in (
-      subst (λ (m : ℕ). d .side-of .result .node < m) (b .pre .0) (x .falls),
-      (
-        x .walk,
-        (
-          pieces t d .payload-whole,
-          (
-            record { inside = omega (arith, i .inside, pieces t d .count-is); counted = omega (arith, i .counted, pieces t d .count-is) },
-            record { inside = omega (arith, o .inside, room t d, kept t e); counted = omega (arith, o .counted, room t d) },
-          ),
-        ),
-      ),
-    )
+loop-less : (t : ℕ) → lts.Need-loop-less (called t) (given t) own.Post Inv-loop μ-loop
+loop-less t c = side t (put t (cleared t (c .before .before))) .falls
 
-same-length-2 : (t : ℕ) → lts.Need-same-length-2 (called t) (given t) own.Post
-same-length-2 t c = c .before .before .read-compact .kept .1 .1 .1 .1 .1 .1 .1 .1 .1 .1 .1 .0 ∙ kept t (c .before .before .before .before .before .before)
-
-returns-2 : (t : ℕ) → lts.Need-returns-2 (called t) (given t) own.Post
-returns-2 t c =
-    let e = c .before .before .before .before .before .before in
+loop-again : (t : ℕ) → lts.Need-loop-again (called t) (given t) own.Post Inv-loop μ-loop
+loop-again t c =
+    let e = c .before .before in
     let p = cleared t e in
     let d = put t p in
     let n = tagged t d in
-    read-tag (p .put-bit .last .0) (pieces t d) (omega (arith, room t d, out-inside t n))
-    (omega (arith, room t d, out-inside t n, p .put-bit .kept .0, length-bitsOf (p .put-bit .last .0), length-bitsOf (start t n .args .out .now)))
-    (p .put-bit .ensures)
-    (e .clear-bits .ensures)
-    (c .before .before .read-compact .ensures)
+    let l = turn t n .loop in
+    let i = l .inv in
+    let x = side t d in
+    record {
+      walk = x .walk;
+      falls = omega (arith, i .falls, x .falls);
+      not-early = pieces t d .payload-whole;
+      span = record { inside = omega (arith, i .span .inside, pieces t d .count-is); counted = omega (arith, i .span .counted, pieces t d .count-is) };
+      room = record { inside = omega (arith, i .room .inside, room t d, kept t e); counted = omega (arith, i .room .counted, room t d) };
+      kept = kept t e ∙ i .kept;
+      whole =
+          λ r.
+          i .whole
+          (read-tag (p .put-bit .last .0) (pieces t d) (omega (arith, room t d, out-inside t n))
+          (omega (arith, room t d, out-inside t n, p .put-bit .kept .0, length-bitsOf (p .put-bit .last .0), length-bitsOf (l .out)))
+          (p .put-bit .ensures)
+          (e .clear-bits .ensures)
+          r);
+    }
 
 -- The parts of a product, what is read there, and where it goes.
-module _ (t : ℕ) (c : lts.Else2 (called t) (given t) own.Post) where
-  abbrev parted : lts.After-node-at (called t) (given t) own.Post
+module _ (t : ℕ) (c : lts.Else2 (called t) (given t) own.Post Inv-loop μ-loop) where
+  abbrev parted : lts.After-node-at (called t) (given t) own.Post Inv-loop μ-loop
   parted = c .before .before .before .before
 
   abbrev front : Decoded
-  front = decodeCompact (tyAt (of t parted .columns) (parted .node-at .result .left)) (drop (start t parted .args .at) (stream t parted))
+  front = decodeCompact (tyAt (of t parted .columns) (parted .node-at .result .left)) (drop (turn t parted .loop .from) (stream t parted))
 
-  abbrev back : Decoded
-  back =
-      decodeCompact (tyAt (of t parted .columns) (parted .node-at .result .right))
-      (drop (start t parted .args .at + consumed front) (stream t parted))
+  abbrev back : ℕ → Decoded
+  back k = decodeCompact (tyAt (of t parted .columns) (parted .node-at .result .right)) (drop k (stream t parted))
 
   product-padded : parted .node-at .result .padded ≡ true
   product-padded = not-false (parted .node-at .result .padded) (c .before .before .if1 .left)
 
-  halves : Parts (of t parted) (start t parted .args .node) (parted .node-at .result)
+  halves : Parts (of t parted) (turn t parted .loop .here) (parted .node-at .result)
   halves = parts (here t parted) product-padded (c .if2 .left)
 
   front-whole : isEarly front ≡ false
   front-whole =
-      first-whole (here t parted) (stream t parted) (start t parted .args .at) (start t parted .pre .1 .1 .0) product-padded (c .if2 .left)
+      first-whole (here t parted) (stream t parted) (turn t parted .loop .from) (turn t parted .loop .inv .not-early) product-padded (c .if2 .left)
 
-  joined : Joined (all t parted) (recordOf front) (consumed front) back
+  joined : Joined (left-over t parted) (recordOf front) (consumed front) (back (turn t parted .loop .from + consumed front))
   joined =
-      joined-whole back
-      (decode-both (here t parted) (stream t parted) (start t parted .args .at) product-padded (c .if2 .left) (whole front-whole))
-      (start t parted .pre .1 .1 .0)
+      joined-whole (back (turn t parted .loop .from + consumed front))
+      (decode-both (here t parted) (stream t parted) (turn t parted .loop .from) product-padded (c .if2 .left) (whole front-whole))
+      (turn t parted .loop .inv .not-early)
 
   front-wide : parted .node-at .result .«left_width» ≡ length (recordOf front)
   front-wide =
       halves .left-wide
       ∙ sym
-      (compact-read-write (tyAt (of t parted .columns) (parted .node-at .result .left)) (drop (start t parted .args .at) (stream t parted))
+      (compact-read-write (tyAt (of t parted .columns) (parted .node-at .result .left)) (drop (turn t parted .loop .from) (stream t parted))
       (recordOf front)
       (consumed front)
       (whole front-whole)
       .as-wide)
 
-read-compact-requires-2 : (t : ℕ) → lts.Need-read-compact-requires-2 (called t) (given t) own.Post
-read-compact-requires-2 t c κs =
-    let d = c .before in
+  front-span : Span (start t parted .args .src .now) (turn t parted .loop .from) (consumed front)
+  front-span =
+      let i = turn t parted .loop .inv .span in
+      record { inside = omega (arith, i .inside, joined .count-is); counted = omega (arith, i .counted, joined .count-is) }
+
+  front-room : Span (turn t parted .loop .out) (turn t parted .loop .next) (bits (tyAt (of t parted .columns) (parted .node-at .result .left)))
+  front-room = left-span (here t parted) (turn t parted .loop .inv .room) halves
+
+  back-room :
+      Span (turn t parted .loop .out) (turn t parted .loop .next + parted .node-at .result .«left_width»)
+      (bits (tyAt (of t parted .columns) (parted .node-at .result .right)))
+  back-room = right-span (here t parted) (turn t parted .loop .inv .room) halves
+
+node-at-requires-2 : (t : ℕ) → lts.Need-node-at-requires-2 (called t) (given t) own.Post Inv-loop μ-loop
+node-at-requires-2 t c κs = let w = halves t c .left-walk in (w .sound, w .present)
+
+read-compact-requires : (t : ℕ) → lts.Need-read-compact-requires (called t) (given t) own.Post Inv-loop μ-loop
+read-compact-requires t c κs =
+    let d = c .before .before .before in
     let n = parted t d in
-    let b = start t n in
-    let x = halves t d in
-    let i = b .pre .1 .1 .1 .0 in (
-      subst (λ (m : ℕ). n .node-at .result .left < m) (b .pre .0) (x .left-falls),
-      (
-        x .left-walk,
-        (
-          front-whole t d,
-          (
-            record { inside = omega (arith, i .inside, joined t d .count-is); counted = omega (arith, i .counted, joined t d .count-is) },
-            left-span (here t n) (b .pre .1 .1 .1 .1) x,
-          ),
-        ),
-      ),
+    let x = halves t d in (
+      omega (arith, x .left-falls, turn t n .loop .inv .falls, start t n .pre .0),
+      (x .left-walk, (front-whole t d, (front-span t d, front-room t d))),
     )
 
--- The first part has been read.
-module _ (t : ℕ) (c : lts.After-read-compact2 (called t) (given t) own.Post) where
-  abbrev divided : lts.Else2 (called t) (given t) own.Post
+-- The left part has no padding.
+module _ (t : ℕ) (c : lts.Else3 (called t) (given t) own.Post Inv-loop μ-loop) where
+  abbrev divided : lts.Else2 (called t) (given t) own.Post Inv-loop μ-loop
   divided = c .before .before
 
-  second : Span (start t (parted t divided) .args .out .now) (start t (parted t divided) .args .to + parted t divided .node-at .result .«left_width»)
-      (bits (tyAt (of t (parted t divided) .columns) (parted t divided .node-at .result .right)))
-  second = right-span (here t (parted t divided)) (start t (parted t divided) .pre .1 .1 .1 .1) (halves t divided)
+  abbrev wide : ℕ
+  wide = c .before .node-at2 .result .width
 
-  -- What is read from the bit on that the first part has ended at.
-  abbrev last : Decoded
-  last =
-      decodeCompact (tyAt (of t (parted t divided) .columns) (parted t divided .node-at .result .right))
-      (drop (c .read-compact2 .result) (stream t (parted t divided)))
+  abbrev from-left : List Bool
+  from-left = drop (turn t (parted t divided) .loop .from) (stream t (parted t divided))
 
-  continued : Joined (all t (parted t divided)) (recordOf (front t divided)) (consumed (front t divided)) last
+  at-first : Here (of t (parted t divided)) (parted t divided .node-at .result .left) (c .before .node-at2 .result)
+  at-first = at-left (halves t divided) (c .before .node-at2 .ensures)
+
+  plain-left : c .before .node-at2 .result .padded ≡ false
+  plain-left = c .if3 .left
+
+  left-enough : wide ≤ length (stream t (parted t divided)) - turn t (parted t divided) .loop .from
+  left-enough = run-enough at-first (stream t (parted t divided)) (turn t (parted t divided) .loop .from) (front-whole t divided) plain-left
+
+  left-run : front t divided ≡ decoded (take wide from-left) wide
+  left-run = decode-run at-first (stream t (parted t divided)) (turn t (parted t divided) .loop .from) plain-left left-enough
+
+copy-bits-requires-2 : (t : ℕ) → lts.Need-copy-bits-requires-2 (called t) (given t) own.Post Inv-loop μ-loop
+copy-bits-requires-2 t c κs =
+    let e = c .before in
+    let d = divided t e in
+    (span-run (sym (ap consumed (left-run t e))) (front-span t d), span-run (own-width (at-first t e)) (front-room t d))
+
+add-from-2 : (t : ℕ) → lts.Need-add-from-2 (called t) (given t) own.Post Inv-loop μ-loop
+add-from-2 t c =
+    let e = c .before .before .before .before in
+    record { fits = omega (arith, front-span t (divided t e) .counted, ap consumed (left-run t e)) }
+
+-- The left part has been read, by a call or as a run.
+module _ (t : ℕ) (c : lts.Joined3 (called t) (given t) own.Post Inv-loop μ-loop) where
+  abbrev apart : lts.Else2 (called t) (given t) own.Post Inv-loop μ-loop
+  apart = c .before .before
+
+  done : ReadTo (front t apart) (turn t (parted t apart) .loop .from) (turn t (parted t apart) .loop .out) (turn t (parted t apart) .loop .next) (c .if3 .from)
+      (c .if3 .out)
+  done =
+      ⊎-elim (λ w. read-at (w .5) (w .6) (w .2 .ensures))
+      (λ w.
+      let e : lts.Else3 (called t) (given t) own.Post Inv-loop μ-loop = record { before = c .before; if3 = w .0 } in
+      read-at (w .5) (w .6)
+      (read-run (from-left t e) (left-run t e)
+      (omega (arith, left-enough t e, length-drop (turn t (parted t apart) .loop .from) (stream t (parted t apart))))
+      (w .2 .ensures)))
+      (c .if3 .came)
+
+  same-room : length (c .if3 .out) ≡ length (turn t (parted t apart) .loop .out)
+  same-room =
+      ⊎-elim (λ w. ap length (w .5) ∙ w .2 .kept .1 .1 .1 .1 .1 .1 .1 .1 .1 .1 .1 .0) (λ w. ap length (w .5) ∙ w .2 .kept .1 .1 .0) (c .if3 .came)
+
+  -- The second part, read from the bit on that the first has ended at.
+  continued : Joined (left-over t (parted t apart)) (recordOf (front t apart)) (consumed (front t apart)) (back t apart (c .if3 .from))
   continued =
-      let n = parted t divided in
-      subst
-      (λ (k : ℕ). Joined (all t n) (recordOf (front t divided)) (consumed (front t divided))
-      (decodeCompact (tyAt (of t n .columns) (n .node-at .result .right)) (drop k (stream t n))))
-      (sym (c .read-compact2 .ensures .consumes))
-      (joined t divided)
+      subst (λ (k : ℕ). Joined (left-over t (parted t apart)) (recordOf (front t apart)) (consumed (front t apart)) (back t apart k))
+      (sym (done .consumes))
+      (joined t apart)
 
-add-read-compact-4 : (t : ℕ) → lts.Need-add-read-compact-4 (called t) (given t) own.Post
-add-read-compact-4 t c = record { fits = omega (arith, second t (c .before .before .before) .counted) }
+add-next-3 : (t : ℕ) → lts.Need-add-next-3 (called t) (given t) own.Post Inv-loop μ-loop
+add-next-3 t c = record { fits = omega (arith, back-room t (apart t c) .counted) }
 
-read-compact-requires-3 : (t : ℕ) → lts.Need-read-compact-requires-3 (called t) (given t) own.Post
-read-compact-requires-3 t c κs =
-    let e = c .before .before .before in
-    let d = divided t e in
+loop-less-2 : (t : ℕ) → lts.Need-loop-less-2 (called t) (given t) own.Post Inv-loop μ-loop
+loop-less-2 t c = halves t (apart t c) .right-falls
+
+loop-again-2 : (t : ℕ) → lts.Need-loop-again-2 (called t) (given t) own.Post Inv-loop μ-loop
+loop-again-2 t c =
+    let d = apart t c in
     let n = parted t d in
-    let b = start t n in
+    let l = turn t n .loop in
+    let i = l .inv in
     let x = halves t d in
-    let i = b .pre .1 .1 .1 .0 in
-    let ends = e .read-compact2 .ensures .consumes in (
-      subst (λ (m : ℕ). n .node-at .result .right < m) (b .pre .0) (x .right-falls),
-      (
-        x .right-walk,
-        (
-          continued t e .second-whole,
-          (
-            record { inside = omega (arith, i .inside, continued t e .count-is, ends); counted = omega (arith, i .counted, continued t e .count-is, ends) },
-            span-kept (e .read-compact2 .kept .1 .1 .1 .1 .1 .1 .1 .1 .1 .1 .1 .0) (second t e),
-          ),
-        ),
-      ),
-    )
-
-same-length-3 : (t : ℕ) → lts.Need-same-length-3 (called t) (given t) own.Post
-same-length-3 t c = c .before .before .read-compact3 .kept .1 .1 .1 .1 .1 .1 .1 .1 .1 .1 .1 .0 ∙ c .before .before .before .before .before .before .read-compact2 .kept .1 .1 .1 .1 .1 .1 .1 .1 .1 .1 .1 .0
-
-returns-3 : (t : ℕ) → lts.Need-returns-3 (called t) (given t) own.Post
-returns-3 t c =
-    let e = c .before .before .before .before .before .before in
-    let d = divided t e in
-    let n = parted t d in
-    read-both (continued t e) (omega (arith, out-inside t n)) (ap (λ (k : ℕ). start t n .args .to + k) (front-wide t d)) (e .read-compact2 .ensures)
-    (c .before .before .read-compact3 .ensures)
+    let g = continued t c in
+    let ends = done t c .consumes in
+    record {
+      walk = x .right-walk;
+      falls = omega (arith, i .falls, x .right-falls);
+      not-early = g .second-whole;
+      span = record { inside = omega (arith, i .span .inside, g .count-is, ends); counted = omega (arith, i .span .counted, g .count-is, ends) };
+      room = span-kept (same-room t c) (back-room t d);
+      kept = same-room t c ∙ i .kept;
+      whole =
+          λ r. i .whole (read-both g (omega (arith, out-inside t n)) (ap (λ (k : ℕ). l .next + k) (front-wide t d)) (done t c) r);
+    }
 
 pub +read-compact-spec : {M : Type 1} → statement M
 +read-compact-spec =
     close μ
-    λ t. lts.spec (called t) (given t) own.Post
+    λ t. lts.spec (called t) (given t) own.Post Inv-loop μ-loop
+    (loop-holds t)
     (node-at-requires t)
     (copy-bits-requires t)
     (add-result t)
@@ -383,14 +436,15 @@ pub +read-compact-spec : {M : Type 1} → statement M
     (put-bit-requires t)
     (add-clear-bits t)
     (clear-bits-requires t)
-    (add-read-compact t)
-    (add-read-compact-2 t)
-    (add-read-compact-3 t)
+    (add-from t)
+    (add-next t)
+    (add-next-2 t)
+    (loop-less t)
+    (loop-again t)
+    (node-at-requires-2 t)
     (read-compact-requires t)
-    (same-length-2 t)
-    (returns-2 t)
-    (read-compact-requires-2 t)
-    (add-read-compact-4 t)
-    (read-compact-requires-3 t)
-    (same-length-3 t)
-    (returns-3 t)
+    (copy-bits-requires-2 t)
+    (add-from-2 t)
+    (add-next-3 t)
+    (loop-less-2 t)
+    (loop-again-2 t)

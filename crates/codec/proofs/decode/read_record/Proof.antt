@@ -41,11 +41,13 @@ returns c =
     let type = tyAt (columns (a .kinds .now) (a .lefts .now) (a .rights .now)) (a .node) in
     let rest = drop (a .at) (bitsOf (a .src .now)) in
     let read : Decoded = decodeCompact type rest in
-    let wide = compact-read-write type rest (recordOf read) (consumed read) (whole (b .pre .1 .0)) .as-wide in
-    wrote-finished (put .read-compact .ensures .wrote) (sized .width-of .ensures ∙ sym wide)
-    (are-bytes (a .out .now) (put .before .before .slice-known .given))
-    (are-bytes (c .before .before .finish .last .0) (c .slice-known3 .given))
-    (c .before .before .finish .ensures)
+    let wide = compact-read-write type rest (recordOf read) (consumed read) (whole (b .pre .1 .0)) .as-wide in (
+      put .read-compact .ensures .consumes,
+      wrote-finished (put .read-compact .ensures .wrote) (sized .width-of .ensures ∙ sym wide)
+          (are-bytes (a .out .now) (put .before .before .slice-known .given))
+          (are-bytes (c .before .before .finish .last .0) (c .slice-known3 .given))
+          (c .before .before .finish .ensures),
+    )
 
 pub read-record-spec : {M : Type 1} → statement M
 read-record-spec =

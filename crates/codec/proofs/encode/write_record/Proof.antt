@@ -26,10 +26,12 @@ returns c =
     let known = put .before .before in
     let a = known .before .before .before .before .before .before .before .before .before .args in
     let all = compact (tyAt (columns (a .kinds .now) (a .lefts .now) (a .rights .now)) (a .node)) (drop (a .at) (bitsOf (a .src .now))) in
-    wrote-finished (put .write-compact .ensures) (put .write-compact .ensures .ends ∙ zero-add (length all))
-    (are-bytes (a .out .now) (known .slice-known .given))
-    (are-bytes (c .before .before .finish .last .0) (c .slice-known3 .given))
-    (c .before .before .finish .ensures)
+    let counted = put .write-compact .ensures .ends ∙ zero-add (length all) in (
+      counted,
+      wrote-finished (put .write-compact .ensures) counted (are-bytes (a .out .now) (known .slice-known .given))
+          (are-bytes (c .before .before .finish .last .0) (c .slice-known3 .given))
+          (c .before .before .finish .ensures),
+    )
 
 pub write-record-spec : {M : Type 1} → statement M
 write-record-spec = tie.close (tie.spec write-compact-requires finish-requires same-length returns)
