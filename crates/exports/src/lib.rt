@@ -3,17 +3,17 @@
 // they stood. The position of a stream is lent too: an accepted reading moves it.
 // No call expects anything of its input. Each hands on to the call that it is named after and is proved against that call's definition.
 // `include/quelomavunt.h` declares them.
-mod buffers;
-mod byte_words;
-mod codecs;
-mod comparing;
-mod constructors;
-mod cut;
-mod hash_states;
-mod joined_words;
-mod questions;
-mod small_words;
-mod tables;
+pub mod buffers;
+pub mod byte_words;
+pub mod codecs;
+pub mod comparing;
+pub mod constructors;
+pub mod cut;
+pub mod hash_states;
+pub mod joined_words;
+pub mod questions;
+pub mod small_words;
+pub mod tables;
 mod told;
-mod views;
-mod word_types;
+pub mod views;
+pub mod word_types;
