@@ -1,4 +1,8 @@
 -- Pruning: document 01, "Pruning". `cut target type v` cuts the record v of a type to a target; `none` is wrong shape.
+--
+--   rebuilt joined              a payload that was cut, wrapped again; two parts that were cut, one after the other
+--   cutToSum cutToProd          the rules for sums and for products
+--   cut                         the four rules in their order
 use mathlib.Core.Bool.{Bool, true, false, cond}
 use mathlib.Core.List.{List, [], _∷_, _++_}
 use mathlib.Core.Option.{Option, none, some}
