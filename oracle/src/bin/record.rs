@@ -1,4 +1,4 @@
-//! Writes, or checks, the fixed list of recorded answers that a program replays with no Rust at hand.
+//! Writes, or checks, the fixed list of recorded answers that the program `samples` replays with no Rust at hand.
 //!
 //!     record FILE            write the list
 //!     record --check FILE    read it again, ask the model every case, and compare
