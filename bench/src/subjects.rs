@@ -66,6 +66,14 @@ pub fn word_19() -> Subject {
     Subject::new("word 19", &maker, node, target, 1)
 }
 
+/// The product of 2^doublings times the same type.
+fn many(maker: &mut TableMaker, mut node: u16, doublings: u32) -> u16 {
+    for _ in 0..doublings {
+        node = maker.shared(2, node, node);
+    }
+    node
+}
+
 /// A padded type that is mostly tags, the worst for a walk: 8,192 times 1 + 2 × (2 + 2^2), 147,455 tree nodes. The cut
 /// works inside each of them.
 pub fn tags() -> Subject {
@@ -73,14 +81,11 @@ pub fn tags() -> Subject {
     let (bit, pair) = (maker.word(0), maker.word(1));
     let choice = maker.shared(1, bit, pair);
     let both = maker.shared(2, bit, choice);
-    let mut node = maker.shared(1, 0, both);
+    let node = maker.shared(1, 0, both);
     let small_choice = maker.shared(1, bit, 0);
     let small_both = maker.shared(2, 0, small_choice);
-    let mut target = maker.shared(1, 0, small_both);
-    for _ in 0..13 {
-        node = maker.shared(2, node, node);
-        target = maker.shared(2, target, target);
-    }
+    let target = maker.shared(1, 0, small_both);
+    let (node, target) = (many(&mut maker, node, 13), many(&mut maker, target, 13));
     Subject::new("padded, mostly tags", &maker, node, target, 2)
 }
 
@@ -92,14 +97,11 @@ pub fn readings() -> Subject {
     let reading = maker.shared(1, 0, w32);
     let place = maker.shared(1, bit, w16);
     let placed = maker.shared(2, place, w8);
-    let mut node = maker.shared(2, reading, placed);
+    let node = maker.shared(2, reading, placed);
     let cut_place = maker.shared(1, 0, w16);
     let cut_placed = maker.shared(2, cut_place, 0);
-    let mut target = maker.shared(2, reading, cut_placed);
-    for _ in 0..10 {
-        node = maker.shared(2, node, node);
-        target = maker.shared(2, target, target);
-    }
+    let target = maker.shared(2, reading, cut_placed);
+    let (node, target) = (many(&mut maker, node, 10), many(&mut maker, target, 10));
     Subject::new("padded, readings", &maker, node, target, 4)
 }
 

@@ -1,12 +1,14 @@
 -- `bits::order_bits` meets its contract. The loop's invariant: the bits passed are alike. Assumes nothing.
-use mathlib.Core.Path.{_≡_, sym, ap, _∙_, subst}
-use Prim.Native.Nat.{_-_, Ordering·lt, Ordering·gt}
+use mathlib.Core.Path.{_≡_, refl, sym, ap, _∙_, subst}
+use Prim.Native.Nat.{_-_, Ordering, Ordering·lt, Ordering·gt}
+use lib.ListN.{take, drop}
 use native.Mathlib.Omega.{arith}
 use borrow.Author.Needs.{needs}
 use Rattle.meaning.specs.Bits.{toBits, bitsOf}
+use Rattle.meaning.specs.Records.{orderBits}
 use Rattle.bits.specs.Alike.{Alike}
 use Rattle.bits.specs.Runs.{orderNo}
-use Rattle.bits.proofs.Comparing.{alike-none, alike-more, order-alike, order-decided}
+use Rattle.bits.proofs.Comparing.{alike-none, alike-more, order-alike, Says, decided, order-decided}
 use Rattle.bits.proofs.order_bits.Statement.{statement}
 use Rattle.bits.proofs.order_bits.Tie as tie
 
@@ -45,41 +47,33 @@ add-bits-at-2 c = search needs
 bits-at-requires-2 : tie.Need-bits-at-requires-2 Inv-loop μ-loop
 bits-at-requires-2 c κs = search needs
 
-returns : tie.Need-returns Inv-loop μ-loop
-returns c =
-    let a = c .before .before .before .before .before .before .before .before .before .before .args in
-    let l = c .before .before .before .before .before .loop in
-    let step = c .before .before .before .at-most-eight in
-    let x = c .before .before .bits-at in
-    let y = c .before .bits-at2 in
+-- Two pieces whose numbers differ decide, whatever follows.
+told : (c : tie.After-bits-at2 Inv-loop μ-loop) (o : Ordering) → ((r : Ordering) → decided o r ≡ o) → Says o (c .before .bits-at .result) (c .bits-at2 .result) →
+    let a = c .before .before .before .before .before .before .before .before .before .args in
+    orderNo o ≡ orderNo (orderBits (take (a .n) (drop (a .from) (bitsOf (a .a .now)))) (take (a .n) (drop (a .at) (bitsOf (a .b .now)))))
+told c o whatever says =
+    let a = c .before .before .before .before .before .before .before .before .before .args in
+    let l = c .before .before .before .before .loop in
+    let step = c .before .before .at-most-eight in
+    let x = c .before .bits-at in
+    let y = c .bits-at2 in
     sym
     (ap orderNo
-    (order-decided (bitsOf (a .a .now)) (bitsOf (a .b .now)) (a .from) (a .at) (a .n) (l .same) (step .result) (x .result) (y .result) Ordering·lt
+    (order-decided (bitsOf (a .a .now)) (bitsOf (a .b .now)) (a .from) (a .at) (a .n) (l .same) (step .result) (x .result) (y .result) o
     (l .inv)
     (search needs)
     (x .ensures .0)
     (y .ensures .0)
     (x .ensures .1)
     (y .ensures .1)
-    (c .if1 .taken)))
+    says
+    ∙ whatever _))
+
+returns : tie.Need-returns Inv-loop μ-loop
+returns c = told (c .before) Ordering·lt (λ r. refl) (c .if1 .taken)
 
 returns-2 : tie.Need-returns-2 Inv-loop μ-loop
-returns-2 c =
-    let a = c .before .before .before .before .before .before .before .before .before .before .before .args in
-    let l = c .before .before .before .before .before .before .loop in
-    let step = c .before .before .before .before .at-most-eight in
-    let x = c .before .before .before .bits-at in
-    let y = c .before .before .bits-at2 in
-    sym
-    (ap orderNo
-    (order-decided (bitsOf (a .a .now)) (bitsOf (a .b .now)) (a .from) (a .at) (a .n) (l .same) (step .result) (x .result) (y .result) Ordering·gt
-    (l .inv)
-    (search needs)
-    (x .ensures .0)
-    (y .ensures .0)
-    (x .ensures .1)
-    (y .ensures .1)
-    (c .if2 .taken)))
+returns-2 c = told (c .before .before) Ordering·gt (λ r. refl) (c .if2 .taken)
 
 add-same : tie.Need-add-same Inv-loop μ-loop
 add-same c = search needs
