@@ -12,3 +12,8 @@ pub mod CutJudged
 pub mod CutRules
 pub mod CutLaws
 pub mod CutExcluded
+pub mod Layouts
+pub mod LayoutCalls
+pub mod LayoutFacts
+pub mod LayoutFills
+pub mod LayoutBytes

@@ -1,12 +1,14 @@
--- Edges that the marked samples do not reach, computed by the definitions: each would show a wrong reading of document 01.
+-- Edges that the marked samples do not reach, computed by the definitions: each would show a wrong reading of document 01, or of
+-- document 02, whose the groups are.
 -- Assumes nothing.
 use mathlib.Core.Path.{_≡_, refl}
-use mathlib.Core.List.{List, [], _∷_, map}
-use Prim.Native.Nat.{_^_, _-_, Ordering·lt, Ordering·eq, Ordering·gt}
-use lib.ListN.{length, drop, replicate}
+use mathlib.Core.List.{List, [], _∷_, _++_, map}
+use Prim.Native.Nat.{ℕ, _+_, _^_, _-_, Ordering·lt, Ordering·eq, Ordering·gt}
+use lib.ListN.{length, drop, replicate, getD, set}
 use Rattle.meaning.specs.Choice.{least, from}
 use Rattle.meaning.specs.Types.{top, stop, same, bits, width, size, padded}
-use Rattle.meaning.specs.Tables.{table, columns, facts, tyTo, tyAt, classOf, firstBad, firstBadEntry, entryRight, factsRight}
+use Rattle.meaning.specs.Tables.{Table, table, groupsTable, columns, facts, tyTo, tyAt, classOf, firstBad, firstBadEntry, entryRight, factsRight}
+use Rattle.meaning.specs.Groups.{low, lowBytes, factIn}
 use Rattle.meaning.specs.Files.{tableIn, groups, entryFrom, entriesFrom}
 use Rattle.meaning.specs.Bits.{odd, toBits, bitsOf, value, packTo, pack, written}
 use Rattle.meaning.specs.Records.{compact, sameBits, orderBits}
@@ -14,7 +16,7 @@ use Rattle.meaning.specs.Codecs.{decodeCompact, decodePadded}
 use Rattle.meaning.specs.Words.{word, wordWidths, isWord, asWord, exponent, buffer, bufferBits, ctx8, ctx8Bits}
 use Rattle.meaning.specs.Cuts.{cut}
 use Rattle.meaning.specs.Ladder.{refused, accepted, ladder, record-of, stream-of, recordBits, restOf}
-use Rattle.meaning.specs.TypeCalls.{checkTable, fillFacts, readTable, asWordCall, wordWidth, bufferWidth}
+use Rattle.meaning.specs.TypeCalls.{checkTable, fillFacts, readTable, groupOf, groupsOf, fillGroups, fillGroupsOut, readGroups, readGroupsOut, asWordCall, wordWidth, bufferWidth}
 use Rattle.meaning.specs.RecordCalls.{asLeft, asRight, compareCall, paddedLen, unitCall, leftOut, noneCall, someOut, productCall, productOut}
 use Rattle.meaning.specs.CodecCalls.{fromCompactCall, fromPaddedCall, fromPaddedOut, toPaddedOut}
 use Rattle.meaning.specs.WordCalls.{numberCall, numberOut, bytesCall, bytesOut, arrayCall, joinCall, joinOut, wordReadCall, bufferCall, bufferOut, ctx8Call}
@@ -77,6 +79,69 @@ tableEdges =
 pub tableEdges-hold : map defined tableEdges ≡ map paper tableEdges
 unfolding tableEdges defined paper tableS tableB spare least from same bits width size padded tyTo tyAt classOf firstBad firstBadEntry entryRight factsRight tableIn groups entryFrom entriesFrom odd toBits bitsOf value packTo pack written compact sameBits orderBits decodeCompact decodePadded word wordWidths isWord asWord exponent buffer bufferBits ctx8 ctx8Bits cut ladder recordBits restOf
 tableEdges-hold = refl
+
+-- The group of a unit, byte by byte: width, size, padded, class; and a group with these bytes at its edges (unit + unit: 1 0 3 0 0 1 0).
+unitGroup : List ℕ
+unitGroup = 0 ∷ 0 ∷ 0 ∷ 0 ∷ 0 ∷ 0 ∷ 0 ∷ 0 ∷ 1 ∷ 0 ∷ 0 ∷ 0 ∷ 0 ∷ 0 ∷ 0 ∷ 0 ∷ 0 ∷ 0 ∷ 0 ∷ []
+
+groupWith : (wide-low wide-high size-low size-high padded-byte class-low class-high : ℕ) → List ℕ
+groupWith w x s z p c h = w ∷ 0 ∷ 0 ∷ 0 ∷ 0 ∷ 0 ∷ 0 ∷ x ∷ s ∷ 0 ∷ 0 ∷ 0 ∷ 0 ∷ 0 ∷ 0 ∷ z ∷ p ∷ c ∷ h ∷ []
+
+-- Unit and unit + unit, with these facts for the second.
+abbrev two : List ℕ → ℕ → Table
+two last n = groupsTable (0 ∷ 1 ∷ []) (0 ∷ 0 ∷ []) (0 ∷ 0 ∷ []) (unitGroup ++ last) n
+
+-- The same over groups: counts, columns, entries and groups that are wrong, each with its place; bytes past the count's groups, which nobody judges.
+pub groupEdges : List Sample
+groupEdges =
+    sample (done (checkTable (two (groupWith 1 0 3 0 0 1 0) 2))) (done (accepted tt))
+    ∷ sample (done (checkTable (two (groupWith 1 0 3 0 0 1 0) 1))) (done (accepted tt))
+    ∷ sample (done (checkTable (two (groupWith 1 0 3 0 0 1 0) 0))) (done (refused 1 0))
+    ∷ sample (done (checkTable (two (groupWith 1 0 3 0 0 1 0) 3))) (done (refused 1 0))
+    ∷ sample (done (checkTable (two (groupWith 1 0 3 0 0 1 0) (2 ^ 64 - 1)))) (done (refused 1 0))
+    ∷ sample (done (checkTable (groupsTable (0 ∷ 3 ∷ []) (0 ∷ 0 ∷ []) (0 ∷ 0 ∷ []) (unitGroup ++ groupWith 1 0 3 0 0 1 0) 2))) (done (refused 1 1))
+    ∷ sample (done (checkTable (groupsTable (0 ∷ 1 ∷ []) (1 ∷ 0 ∷ []) (0 ∷ 0 ∷ []) (unitGroup ++ groupWith 1 0 3 0 0 1 0) 2))) (done (refused 1 0))
+    ∷ sample (done (checkTable (groupsTable (0 ∷ 1 ∷ []) (0 ∷ 0 ∷ []) (1 ∷ 0 ∷ []) (unitGroup ++ groupWith 1 0 3 0 0 1 0) 2))) (done (refused 1 0))
+    ∷ sample (done (checkTable (groupsTable (0 ∷ 1 ∷ []) (0 ∷ 0 ∷ []) (0 ∷ 1 ∷ []) (unitGroup ++ groupWith 1 0 3 0 0 1 0) 2))) (done (refused 1 1))
+    ∷ sample (done (checkTable (two (groupWith 2 0 3 0 0 1 0) 2))) (done (refused 1 1))
+    ∷ sample (done (checkTable (two (groupWith 1 1 3 0 0 1 0) 2))) (done (refused 1 1))
+    ∷ sample (done (checkTable (two (groupWith 1 0 9 0 0 1 0) 2))) (done (refused 1 1))
+    ∷ sample (done (checkTable (two (groupWith 1 0 3 1 0 1 0) 2))) (done (refused 1 1))
+    ∷ sample (done (checkTable (two (groupWith 1 0 3 0 2 1 0) 2))) (done (refused 1 1))
+    ∷ sample (done (checkTable (two (groupWith 1 0 3 0 0 0 0) 2))) (done (refused 1 1))
+    ∷ sample (done (checkTable (two (groupWith 1 0 3 0 0 1 1) 2))) (done (refused 1 1))
+    ∷ sample (done (checkTable (groupsTable (0 ∷ 1 ∷ []) (0 ∷ 0 ∷ []) (0 ∷ 0 ∷ []) (groupWith 0 0 2 0 0 0 0 ++ groupWith 1 0 9 0 0 1 0) 2))) (done (refused 1 0))
+    ∷ sample (done (checkTable (two [] 2))) (done (refused 1 0))
+    ∷ sample (done (checkTable (two (1 ∷ 0 ∷ 0 ∷ 0 ∷ 0 ∷ 0 ∷ 0 ∷ 0 ∷ 3 ∷ 0 ∷ 0 ∷ 0 ∷ 0 ∷ 0 ∷ 0 ∷ 0 ∷ 0 ∷ 1 ∷ []) 2))) (done (refused 1 0))
+    ∷ sample (done (checkTable (two (9 ∷ 9 ∷ []) 1))) (done (accepted tt))
+    ∷ sample (done (checkTable (two (groupWith 1 0 3 0 0 1 0 ++ (9 ∷ [])) 2))) (done (accepted tt))
+    ∷ sample (done (fillGroups (columns (0 ∷ []) (0 ∷ []) (0 ∷ [])) 1 [])) (done (refused 9 0))
+    ∷ sample (done (fillGroups (columns (0 ∷ []) (0 ∷ []) (0 ∷ [])) 1 (drop 1 unitGroup))) (done (refused 9 0))
+    ∷ sample (done (fillGroups (columns (0 ∷ []) (5 ∷ []) (0 ∷ [])) 1 [])) (done (refused 1 0))
+    ∷ sample (out (fillGroupsOut (columns (0 ∷ 1 ∷ []) (0 ∷ 0 ∷ []) (0 ∷ 0 ∷ [])) 2 (replicate 40 7))) (out (unitGroup ++ (groupWith 1 0 3 0 0 1 0 ++ (7 ∷ 7 ∷ []))))
+    ∷ sample (out (fillGroupsOut (columns (0 ∷ 1 ∷ []) (0 ∷ 0 ∷ []) (0 ∷ 0 ∷ [])) 2 (7 ∷ 7 ∷ []))) (out (7 ∷ 7 ∷ []))
+    ∷ sample (count (readGroups (0x01 ∷ 0x03 ∷ []) (columns (9 ∷ []) (9 ∷ []) (9 ∷ [])) (replicate 20 7))) (count (refused 1 1))
+    ∷ sample (out (readGroupsOut (0x01 ∷ 0x03 ∷ []) (columns (9 ∷ []) (9 ∷ []) (9 ∷ [])) (replicate 20 7))) (out (replicate 20 7))
+    ∷ sample (count (readGroups (0x01 ∷ 0x00 ∷ []) (columns (9 ∷ []) (9 ∷ []) (9 ∷ [])) (replicate 18 7))) (count (refused 9 0))
+    ∷ sample (out (readGroupsOut (0x01 ∷ 0x00 ∷ []) (columns (9 ∷ []) (9 ∷ []) (9 ∷ [])) (replicate 18 7))) (out (replicate 18 7))
+    ∷ sample (count (readGroups (0x02 ∷ 0x00 ∷ 0x01 ∷ 0x00 ∷ 0x00 ∷ []) (columns (9 ∷ 9 ∷ []) (9 ∷ 9 ∷ []) (9 ∷ 9 ∷ [])) (replicate 40 7))) (count (accepted 2))
+    ∷ sample (out (readGroupsOut (0x02 ∷ 0x00 ∷ 0x01 ∷ 0x00 ∷ 0x00 ∷ []) (columns (9 ∷ 9 ∷ []) (9 ∷ 9 ∷ []) (9 ∷ 9 ∷ [])) (replicate 40 7))) (out (unitGroup ++ (groupWith 1 0 3 0 0 1 0 ++ (7 ∷ 7 ∷ []))))
+    ∷ sample (number (low 8 (1 ∷ 2 ∷ 3 ∷ 4 ∷ 5 ∷ 6 ∷ 7 ∷ 8 ∷ []))) (number 0x0807060504030201)
+    ∷ sample (out (lowBytes 8 0x0807060504030201)) (out (1 ∷ 2 ∷ 3 ∷ 4 ∷ 5 ∷ 6 ∷ 7 ∷ 8 ∷ []))
+    ∷ []
+
+pub groupEdges-hold : map defined groupEdges ≡ map paper groupEdges
+unfolding groupEdges unitGroup groupWith defined paper low lowBytes factIn groupOf groupsOf least from same width size padded tyTo tyAt classOf firstBad firstBadEntry entryRight factsRight tableIn groups entryFrom entriesFrom ladder
+groupEdges-hold = refl
+
+-- Unit and unit + unit, with byte i of the second group greater by one: whichever byte it is, it is told, at that node.
+pub byteEdges : List Sample
+byteEdges =
+    map (λ i. sample (done (checkTable (two (set (groupWith 1 0 3 0 0 1 0) i (getD (groupWith 1 0 3 0 0 1 0) i 0 + 1)) 2))) (done (refused 1 1))) (from 0 19)
+
+pub byteEdges-hold : map defined byteEdges ≡ map paper byteEdges
+unfolding byteEdges unitGroup groupWith defined paper low factIn least from same width size padded tyTo tyAt classOf firstBad entryRight factsRight ladder
+byteEdges-hold = refl
 
 -- Bounds, views, order, constructors, both codecs and cuts at their edges.
 pub recordEdges : List Sample

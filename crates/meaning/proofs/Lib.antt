@@ -5,8 +5,11 @@ pub mod Edges
 pub mod Tests
 pub mod Choices
 pub mod Types
+pub mod Groups
 pub mod Trees
+pub mod GroupLaws
 pub mod Ladders
 pub mod Sounds
+pub mod GroupBytes
 pub mod Records
 pub mod Words

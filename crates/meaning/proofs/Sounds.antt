@@ -4,20 +4,21 @@
 --   sound-tree                  its tree is made of its sides' trees
 --   sound-kind                  its kind is 0, 1 or 2
 --   sound-left sound-right-side     its sides are in the table; of a sum and a product they stand earlier (-falls)
---   sound-width sound-size sound-padded sound-class     its facts are those of its tree
+--   sound-width sound-size sound-digit sound-padded sound-class     its facts are those of its tree
 -- Assumes nothing.
 use Prim.Native.Nat.{ℕ, zero, suc, _≤_, _<_}
-use mathlib.Core.Path.{_≡_, refl, ap, sym, _∙_, subst}
-use mathlib.Core.Bool.{Bool, true, false, _&&_, false≢true}
+use mathlib.Core.Path.{_≡_, refl, ap, _∙_}
+use mathlib.Core.Bool.{Bool, true, false, false≢true}
 use native.Mathlib.Omega.{arith}
-use lib.Dec.{eqb, ltb}
+use lib.Dec.{eqb}
 use lib.ListN.{getD}
-use borrow.Author.Tests.{eqb-true, eq-eqb, ltb-true}
-use Rattle.meaning.specs.Types.{Ty, width, size, padded}
-use Rattle.meaning.specs.Tables.{Table, kind, left, right, node, tyAt, classOf, digit, sidesRight, entryRight, factsRight}
+use borrow.Author.Tests.{eqb-true}
+use Rattle.meaning.specs.Types.{width, size, padded}
+use Rattle.meaning.specs.Tables.{Table, kind, left, right, node, tyAt, classOf, digit, sidesRight, entryRight}
 use Rattle.meaning.specs.Checked.{Sound}
 use Rattle.meaning.proofs.Tests.{and-left, and-right}
 use Rattle.meaning.proofs.Trees.{RightTo, ty-node, sides-below}
+use Rattle.meaning.proofs.GroupLaws.{Holds, right-holds}
 
 -- Whichever kind a node has, its sides are below any count above it.
 sides-in : (k n l r m : ℕ) → n < m → sidesRight k n l r ≡ true → (l < m) × (r < m)
@@ -70,43 +71,21 @@ module _ (t : Table) (s : Sound t) (n : ℕ) (h : n < t .count) where
   pub sound-right-falls : 1 ≤ kind (t .columns) n → right (t .columns) n < n
   sound-right-falls k = sides-fall (kind (t .columns) n) n (left (t .columns) n) (right (t .columns) n) entry k .1
 
-  -- The four facts as one test, and its parts.
-  w : Bool
-  w = eqb (getD (t .facts .widths) n 0) (width (tyAt (t .columns) n))
-
-  z : Bool
-  z = eqb (getD (t .facts .sizes) n 0) (size (tyAt (t .columns) n))
-
-  p : Bool
-  p = eqb (getD (t .facts .paddeds) n 0) (digit (padded (tyAt (t .columns) n)))
-
-  k : Bool
-  k = eqb (getD (t .facts .classes) n 0) (classOf (t .columns) n)
-
-  all : (w && z && p && k) ≡ true
-  unfolding factsRight w z p k
-  all = s .told n h
+  -- The four facts.
+  held : Holds (t .facts) n (width (tyAt (t .columns) n)) (size (tyAt (t .columns) n)) (digit (padded (tyAt (t .columns) n))) (classOf (t .columns) n)
+  held = right-holds (t .columns) (t .facts) n (s .told n h)
 
   pub sound-width : getD (t .facts .widths) n 0 ≡ width (tyAt (t .columns) n)
-  unfolding w
-  sound-width =
-      eqb-true (getD (t .facts .widths) n 0) (width (tyAt (t .columns) n))
-      (and-left w z (and-left (w && z) p (and-left (w && z && p) k all)))
+  sound-width = held .width-held
 
   pub sound-size : getD (t .facts .sizes) n 0 ≡ size (tyAt (t .columns) n)
-  unfolding z
-  sound-size =
-      eqb-true (getD (t .facts .sizes) n 0) (size (tyAt (t .columns) n))
-      (and-right w z (and-left (w && z) p (and-left (w && z && p) k all)))
+  sound-size = held .size-held
 
   pub sound-digit : getD (t .facts .paddeds) n 0 ≡ digit (padded (tyAt (t .columns) n))
-  unfolding p
-  sound-digit =
-      eqb-true (getD (t .facts .paddeds) n 0) (digit (padded (tyAt (t .columns) n))) (and-right (w && z) p (and-left (w && z && p) k all))
+  sound-digit = held .padded-held
 
   pub sound-padded : eqb (getD (t .facts .paddeds) n 0) 1 ≡ padded (tyAt (t .columns) n)
   sound-padded = ap (λ (x : ℕ). eqb x 1) sound-digit ∙ digit-padded (padded (tyAt (t .columns) n))
 
   pub sound-class : getD (t .facts .classes) n 0 ≡ classOf (t .columns) n
-  unfolding k
-  sound-class = eqb-true (getD (t .facts .classes) n 0) (classOf (t .columns) n) (and-right (w && z && p) k all)
+  sound-class = held .class-held

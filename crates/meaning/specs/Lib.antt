@@ -1,6 +1,7 @@
--- What document 01 says, one subject a file, in its order. docs/READING.md takes a newcomer through them.
+-- What document 01 says, one subject a file, in its order, and document 02's groups. docs/READING.md takes a newcomer through them.
 pub mod Choice
 pub mod Types
+pub mod Groups
 pub mod Tables
 pub mod Files
 pub mod Bits

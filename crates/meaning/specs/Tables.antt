@@ -2,6 +2,7 @@
 --
 --   Columns Facts Table         what a call is handed
 --   table                       a table from its columns, facts and count
+--   factsIn groupsTable         the facts that groups hold, and a table whose facts lie in groups
 --   kind left right             the entry of a node
 --   node tyTo tyAt              the type of a node: its tree
 --   classOf                     the smallest node with the same tree
@@ -11,14 +12,16 @@
 --   factsRight                  the facts handed in are right
 --   countRight                  a count of 1 to 1,024
 --   reaches columnsReach factsReach     columns that reach it
+--   groupsReach                 groups that reach it
 --   firstBadEntry firstBad      the first node at fault, or the count where there is none
-use Prim.Native.Nat.{ℕ, zero, suc}
+use Prim.Native.Nat.{ℕ, zero, suc, _*_}
 use mathlib.Core.Bool.{Bool, true, false, not, cond, _&&_}
 use mathlib.Core.List.{List}
 use lib.ListN.{length, getD}
 use lib.Dec.{eqb, ltb, leb}
 use Rattle.meaning.specs.Choice.{least}
 use Rattle.meaning.specs.Types.{Ty, unit, sum, prod, same, width, size, padded}
+use Rattle.meaning.specs.Groups.{groupSize, factIn}
 
 -- The entries of the nodes: a kind (0 unit, 1 sum, 2 product) and the numbers of the two sides.
 pub record Columns : Type 0 where
@@ -50,6 +53,14 @@ facts ws ss ps cs = record { widths = ws; sizes = ss; paddeds = ps; classes = cs
 -- A table from its seven columns and its count.
 abbrev pub table : List ℕ → List ℕ → List ℕ → List ℕ → List ℕ → List ℕ → List ℕ → ℕ → Table
 table ks ls rs ws ss ps cs n = record { columns = columns ks ls rs; facts = facts ws ss ps cs; count = n }
+
+-- The facts that groups hold: width, size, padded and class, in this order.
+abbrev pub factsIn : List ℕ → Facts
+factsIn gs = facts (factIn 0 8 gs) (factIn 8 8 gs) (factIn 16 1 gs) (factIn 17 2 gs)
+
+-- A table from the columns of its entries, the groups of its facts and its count.
+abbrev pub groupsTable : List ℕ → List ℕ → List ℕ → List ℕ → ℕ → Table
+groupsTable ks ls rs gs n = record { columns = columns ks ls rs; facts = factsIn gs; count = n }
 
 -- The kind of a node.
 abbrev pub kind : Columns → ℕ → ℕ
@@ -144,6 +155,10 @@ columnsReach c n = reaches n (c .kinds) && reaches n (c .lefts) && reaches n (c 
 -- The columns of the facts reach the count.
 abbrev pub factsReach : Facts → ℕ → Bool
 factsReach f n = reaches n (f .widths) && reaches n (f .sizes) && reaches n (f .paddeds) && reaches n (f .classes)
+
+-- There is a whole group for each of the nodes.
+abbrev pub groupsReach : List ℕ → ℕ → Bool
+groupsReach gs n = leb (groupSize * n) (length gs)
 
 -- The first node whose entry is wrong, or the count where none is.
 unfoldable pub firstBadEntry : Columns → ℕ → ℕ

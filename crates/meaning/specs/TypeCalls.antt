@@ -3,16 +3,20 @@
 --   checkTable                  the check
 --   fillFacts fillFactsOut      facts from columns
 --   readTable readTableColumns readTableFacts   a table from its file
+--   groupOf groupsOf groupsWritten              the groups of nodes, and a buffer with them written
+--   fillGroups fillGroupsOut                    facts from columns, written as groups
+--   readGroups readGroupsColumns readGroupsOut  a table from its file, its facts written as groups
 --   asks factsOf sameType isUnitCall isEmptyCall typeAsSum typeAsProduct padLeftCall padRightCall asWordCall
 --   wordWidth bufferWidth isBuffer8 isCtx8      the type-only questions
-use Prim.Native.Nat.{ℕ, zero, suc, _-_, max}
+use Prim.Native.Nat.{ℕ, zero, suc, _*_, _-_, max}
 use mathlib.Core.Bool.{Bool, true, false, not, _&&_}
 use mathlib.Core.List.{List, [], _∷_, _++_, map}
 use lib.ListN.{length, drop, getD}
 use lib.Dec.{eqb, ltb, leb}
 use Rattle.meaning.specs.Choice.{from}
 use Rattle.meaning.specs.Types.{Ty, same, bits, width, size, padded, isUnit, isSum, isProd}
-use Rattle.meaning.specs.Tables.{Columns, Facts, Table, kind, left, right, tyAt, classOf, digit, NodeFacts, factsAt, countRight, columnsReach, factsReach, firstBadEntry}
+use Rattle.meaning.specs.Groups.{group, groupSize}
+use Rattle.meaning.specs.Tables.{Columns, Facts, Table, kind, left, right, tyAt, classOf, digit, NodeFacts, factsAt, countRight, columnsReach, factsReach, groupsReach, firstBadEntry}
 use Rattle.meaning.specs.Files.{Reading, faulty, found, Entry, tableIn, columnsOf}
 use Rattle.meaning.specs.Words.{wordWidths, asWord, buffer, ctx8}
 use Rattle.meaning.specs.Ladder.{Answer, Rung, rung, ladder, kept, typeAt, sound, present, ranged, shaped}
@@ -105,6 +109,53 @@ abbrev pub readTableFacts : List ℕ → Columns → Facts → Facts
 readTableFacts file c f =
     factsKept (readTable file c f) f
     (factsWritten (columnsOf (entriesIn (tableIn file))) (length (entriesIn (tableIn file))) f)
+
+-- The group of a node, by its tree.
+unfoldable pub groupOf : Columns → ℕ → List ℕ
+groupOf c n = group (width (tyAt c n)) (size (tyAt c n)) (digit (padded (tyAt c n))) (classOf c n)
+
+-- The groups of the first n nodes.
+unfoldable pub groupsOf : Columns → ℕ → List ℕ
+groupsOf c zero = []
+groupsOf c (suc n) = groupsOf c n ++ groupOf c n
+
+-- A buffer after the groups of the first n nodes were written to it; later bytes stay.
+abbrev pub groupsWritten : Columns → ℕ → List ℕ → List ℕ
+groupsWritten c n old = groupsOf c n ++ drop (groupSize * n) old
+
+-- `fill_facts` to groups: the entries are judged as in a sound table, and the buffer must have a group for each node.
+abbrev pub fillGroups : Columns → ℕ → List ℕ → Answer (Unit {0})
+fillGroups c n gs =
+    ladder
+    (rung (not (countRight n && columnsReach c n)) 1 0
+    ∷ rung (ltb (firstBadEntry c n) n) 1 (firstBadEntry c n)
+    ∷ rung (not (groupsReach gs n)) 9 0
+    ∷ [])
+    tt
+
+-- The buffer after `fill_facts`.
+abbrev pub fillGroupsOut : Columns → ℕ → List ℕ → List ℕ
+fillGroupsOut c n gs = kept (fillGroups c n gs) gs (groupsWritten c n gs)
+
+-- `read_table` to groups: the whole file is judged first; then every column must reach the count, which is the answer, and the buffer must have a
+-- group for each node.
+abbrev pub readGroups : List ℕ → Columns → List ℕ → Answer ℕ
+readGroups file c gs =
+    ladder
+    (fileRung (tableIn file)
+    ∷ rung (not (columnsReach c (length (entriesIn (tableIn file))) && groupsReach gs (length (entriesIn (tableIn file))))) 9 0
+    ∷ [])
+    (length (entriesIn (tableIn file)))
+
+-- The entries' columns after `read_table`.
+abbrev pub readGroupsColumns : List ℕ → Columns → List ℕ → Columns
+readGroupsColumns file c gs = columnsKept (readGroups file c gs) c (entriesWritten (entriesIn (tableIn file)) c)
+
+-- The buffer after `read_table`.
+abbrev pub readGroupsOut : List ℕ → Columns → List ℕ → List ℕ
+readGroupsOut file c gs =
+    kept (readGroups file c gs) gs
+    (groupsWritten (columnsOf (entriesIn (tableIn file))) (length (entriesIn (tableIn file))) gs)
 
 -- A question about the type of a node.
 abbrev pub asks : {A : Type 0} → Table → List ℕ → List Rung → A → Answer A
