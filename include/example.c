@@ -16,31 +16,32 @@ static void expect(const char *what, uint64_t answer, uint64_t expected) {
     }
 }
 
-/* A table owns its columns; TABLE hands them to a call. */
+/* A table owns its columns and its groups; TABLE hands them to a call. */
 struct table {
     uint8_t kinds[QV_MOST_NODES];
     uint16_t lefts[QV_MOST_NODES];
     uint16_t rights[QV_MOST_NODES];
-    uint64_t widths[QV_MOST_NODES];
-    uint64_t sizes[QV_MOST_NODES];
-    uint8_t padded[QV_MOST_NODES];
-    uint16_t classes[QV_MOST_NODES];
+    uint8_t groups[QV_GROUP_BYTES * QV_MOST_NODES];
     uint64_t count;
 };
 
 #define TABLE(t)                                                                                                   \
-    (t).kinds, QV_MOST_NODES, (t).lefts, QV_MOST_NODES, (t).rights, QV_MOST_NODES, (t).widths, QV_MOST_NODES,       \
-        (t).sizes, QV_MOST_NODES, (t).padded, QV_MOST_NODES, (t).classes, QV_MOST_NODES, (t).count
+    (t).kinds, QV_MOST_NODES, (t).lefts, QV_MOST_NODES, (t).rights, QV_MOST_NODES, (t).groups, sizeof (t).groups,   \
+        (t).count
 
 int main(void) {
     static const uint8_t file[29] = {10, 0, 1, 0, 0, 2, 0, 0, 1, 0, 1, 2, 1, 1, 1,
                                      1,  4, 1, 0, 0, 2, 5, 1, 1, 1, 0, 1, 1, 2};
     static struct table t;
     uint64_t result = qv_read_table(
-        file, sizeof file, t.kinds, QV_MOST_NODES, t.lefts, QV_MOST_NODES, t.rights, QV_MOST_NODES, t.widths,
-        QV_MOST_NODES, t.sizes, QV_MOST_NODES, t.padded, QV_MOST_NODES, t.classes, QV_MOST_NODES, &t.count);
+        file, sizeof file, t.kinds, QV_MOST_NODES, t.lefts, QV_MOST_NODES, t.rights, QV_MOST_NODES, t.groups,
+        sizeof t.groups, &t.count);
     expect("read the table", result, 0);
     expect("its nodes", t.count, 10);
+
+    /* A group says a node's facts, the low byte first: node 7 is 4 bits wide. */
+    uint8_t *group = t.groups + QV_GROUP_BYTES * 7;
+    expect("the low byte of node 7's width", group[0], 4);
 
     /* Node 5 is 2 + 2 x 2: compact bits 0 1 are the padded bits 0 0 1. */
     const uint8_t compact[1] = {0x40};
@@ -67,7 +68,7 @@ int main(void) {
     result = qv_from_compact_bits(TABLE(t), compact, 1, 1, &position, 5, record, 2);
     expect("a stream that ends early", QV_NUMBER(result), 8);
     expect("position stays", position, 0);
-    t.widths[7] += 1;
+    group[0] += 1;
     result = qv_check_table(TABLE(t));
     expect("a wrong fact", QV_NUMBER(result), 1);
     expect("at node", QV_PLACE(result), 7);

@@ -7,8 +7,8 @@
  *
  * Refusals. If several apply, the smallest number is answered:
  *
- *     1  unsound table or facts; the place is the first node at fault, 0 for a bad count or a short column, and the
- *        offset in the file for qv_read_table
+ *     1  unsound table or facts; the place is the first node at fault, 0 for a bad count, a short column or short
+ *        groups, and the offset in the file for qv_read_table
  *     2  a named node isn't in the table
  *     3  a named record type is wider than 524,288 bits
  *     4  its size is above 2,097,152
@@ -18,16 +18,25 @@
  *     8  the stream ends early
  *     9  an output is shorter than the whole result needs (also a slice of accepted values)
  *
- * The place is 0 for 2 to 9. A refusal changes nothing: no output byte, no column, no position, no accepted value.
+ * The place is 0 for 2 to 9. A refusal changes nothing: no output byte, no column, no group, no position, no accepted
+ * value.
  *
  * A slice NAME is two parameters, NAME and NAME_len: a pointer and the count of elements. A pointer is never null,
  * also where the count is 0, and is aligned for its element. What is written must not overlap anything else that is
  * handed in.
  *
- * The table is seven columns and a count, handed to every call that speaks of types: kinds (0 unit, 1 sum,
- * 2 product), lefts and rights (nodes of the sides, 0 for unit), and the facts widths, sizes, padded, classes.
- * Columns may be longer than the count; what lies past it is neither judged nor changed. Each call checks the table
- * it is handed. qv_read_table and qv_fill_facts make the facts.
+ * The table is three columns, the groups of its facts and a count, handed to every call that speaks of types. The
+ * columns are kinds (0 unit, 1 sum, 2 product), lefts and rights (nodes of the sides, 0 for unit). The groups are
+ * bytes: the facts of node n are the QV_GROUP_BYTES bytes from byte QV_GROUP_BYTES * n on, numbers low byte first:
+ *
+ *     bytes  0 to  7    width: the bits of a record; stops at 2^64 - 1
+ *     bytes  8 to 15    size: the nodes of the tree; stops at 2^64 - 1
+ *     byte  16          padded: 1 if a record has padding, else 0
+ *     bytes 17 to 18    class: the smallest node with the same tree
+ *
+ * A wrong byte anywhere in a node's group is a wrong fact of that node. Columns and groups may be longer than the count
+ * needs; what lies past it is neither judged nor changed. Each call checks the table it is handed. qv_read_table and
+ * qv_fill_facts make the facts.
  *
  * A record is bytes, a bit offset and a node; bits run from the top of each byte. A stream is bytes, a length in
  * bits and a position in bits, which an accepted reading moves.
@@ -49,8 +58,11 @@ extern "C" {
 #define QV_NUMBER(result) ((unsigned)((result) % 256u))
 #define QV_PLACE(result) ((uint64_t)(result) / 256u)
 
-/* The most nodes that a table has: columns of this length hold any table. */
+/* The most nodes that a table has: columns of this length, and groups of QV_GROUP_BYTES times it, hold any table. */
 #define QV_MOST_NODES 1024
+
+/* The bytes of one node's facts: groups of QV_GROUP_BYTES * count bytes hold a table of `count` nodes. */
+#define QV_GROUP_BYTES 19
 
 /* The widest record, in bits: 65,536 bytes of output hold any record. */
 #define QV_MOST_BITS 524288
@@ -58,27 +70,24 @@ extern "C" {
 /* The parameters that stand for the table, first in every call that takes one. */
 #define QV_TABLE \
     const uint8_t *kinds, size_t kinds_len, const uint16_t *lefts, size_t lefts_len, \
-    const uint16_t *rights, size_t rights_len, const uint64_t *widths, size_t widths_len, \
-    const uint64_t *sizes, size_t sizes_len, const uint8_t *padded, size_t padded_len, \
-    const uint16_t *classes, size_t classes_len, uint64_t count
+    const uint16_t *rights, size_t rights_len, const uint8_t *groups, size_t groups_len, uint64_t count
 
 /* ---- Tables ---- */
 
-/* Reads a table file into lent columns, with all facts. Accepted: `count`, the number of nodes; the first `count`
- * entries of all seven columns are written, later entries stay. Refuses: 1 at the offset of the first faulty number
- * or surplus byte; 9 if any column is shorter than the count of a sound file. */
+/* Reads a table file into lent columns and groups, with all facts. Accepted: `count`, the number of nodes; the first
+ * `count` entries of the three columns and the first `count` groups are written, what follows them stays.
+ * Refuses: 1 at the offset of the first faulty number or surplus byte; 9 if a column is shorter than the count of a
+ * sound file, or the groups than QV_GROUP_BYTES times it. */
 uint64_t qv_read_table(
     const uint8_t *file, size_t file_len, uint8_t *kinds, size_t kinds_len, uint16_t *lefts, size_t lefts_len,
-    uint16_t *rights, size_t rights_len, uint64_t *widths, size_t widths_len, uint64_t *sizes, size_t sizes_len,
-    uint8_t *padded, size_t padded_len, uint16_t *classes, size_t classes_len, uint64_t *count);
+    uint16_t *rights, size_t rights_len, uint8_t *groups, size_t groups_len, uint64_t *count);
 
-/* Computes the facts of a table whose entries are handed in. Accepted: the first `count` entries of the four facts
- * columns are written. Refuses: 1 (0 for a bad count or a short entries column, else the first faulty node);
- * 9 if a facts column is shorter than the count. */
+/* Computes the facts of a table whose entries are handed in. Accepted: the first `count` groups are written, later
+ * bytes stay. Refuses: 1 (0 for a bad count or a short column, else the first faulty node);
+ * 9 if the groups are shorter than QV_GROUP_BYTES times the count. */
 uint64_t qv_fill_facts(
     const uint8_t *kinds, size_t kinds_len, const uint16_t *lefts, size_t lefts_len, const uint16_t *rights,
-    size_t rights_len, uint64_t count, uint64_t *widths, size_t widths_len, uint64_t *sizes, size_t sizes_len,
-    uint8_t *padded, size_t padded_len, uint16_t *classes, size_t classes_len);
+    size_t rights_len, uint64_t count, uint8_t *groups, size_t groups_len);
 
 /* Whether the table and its facts are sound. Refuses: 1. */
 uint64_t qv_check_table(

@@ -1,6 +1,7 @@
 //! Ours and the crate's text side by side on the same inputs: best of several, as ratios.
 //!
 //!     bench [--quick] [copies | codecs | tables ...]
+//!     bench [--quick] before    (with the feature of that name alone: see tools/bench-before)
 //!
 //! A ratio above 1 says how many times as fast ours is. Every call of ours checks its whole table first; the crate
 //! has no such check, and its types carry an interned number where the published crate computes a SHA-256 each time
@@ -12,6 +13,8 @@ mod copy_bits;
 mod measure;
 mod subjects;
 mod tables;
+#[cfg(feature = "before")]
+mod two_archives;
 
 use measure::Effort;
 
@@ -19,6 +22,11 @@ fn main() {
     let words: Vec<String> = std::env::args().skip(1).collect();
     let quick = words.iter().any(|word| word == "--quick");
     let wanted: Vec<&String> = words.iter().filter(|word| *word != "--quick").collect();
+    #[cfg(feature = "before")]
+    if wanted == ["before"] {
+        println!("machine: {}", machine());
+        return two_archives::run(Effort::new(quick));
+    }
     if let Some(other) = wanted.iter().find(|word| !["copies", "codecs", "tables"].contains(&word.as_str())) {
         eprintln!("bench: no such part: {other}");
         std::process::exit(2);

@@ -20,17 +20,38 @@ impl Effort {
 
     /// Nanoseconds a call: the best of the runs, each as many calls as fill its time.
     pub fn best(self, mut call: impl FnMut()) -> f64 {
+        let times = self.calls_a_run(&mut call);
+        (0..self.runs).map(|_| each(times, &mut call)).fold(f64::MAX, f64::min)
+    }
+
+    /// The best of each of two calls, their runs taken in turn, so that both meet the same moods of the machine.
+    #[cfg(feature = "before")]
+    pub fn best_of_both(self, mut one: impl FnMut(), mut other: impl FnMut()) -> (f64, f64) {
+        let times = self.calls_a_run(&mut one);
+        let mut best = (f64::MAX, f64::MAX);
+        for _ in 0..self.runs {
+            best = (best.0.min(each(times, &mut one)), best.1.min(each(times, &mut other)));
+        }
+        best
+    }
+
+    /// As many calls as fill a run's time.
+    fn calls_a_run(self, call: &mut impl FnMut()) -> u64 {
         let mut times = 1u64;
         loop {
-            let took = timed(times, &mut call);
+            let took = timed(times, call);
             if took >= self.run || times >= 1 << 30 {
-                break;
+                return times;
             }
             let wanted = self.run.as_nanos() as f64 / took.as_nanos().max(1) as f64;
             times = (times as f64 * wanted.clamp(1.5, 100.0)).ceil() as u64;
         }
-        (0..self.runs).map(|_| timed(times, &mut call).as_nanos() as f64 / times as f64).fold(f64::MAX, f64::min)
     }
+}
+
+/// Nanoseconds a call, of one run.
+fn each(times: u64, call: &mut impl FnMut()) -> f64 {
+    timed(times, call).as_nanos() as f64 / times as f64
 }
 
 fn timed(times: u64, call: &mut impl FnMut()) -> Duration {

@@ -28,13 +28,13 @@ impl Subject {
         let types = Published::new().types(&lent);
         let (node, target) = (usize::from(node), usize::from(target));
         let table = Table::from_file(&maker.file()).expect("a sound file");
-        let width = plain.widths[node];
+        let width = plain.facts(node).width;
         let bytes = Random::new(seed).bytes(width.div_ceil(8) as usize);
         let mut bits = BitIter::window(&bytes, 0, width as usize);
         let value = Value::from_padded_bits(&mut bits, &types[node]).expect("enough bits");
         Subject {
             name,
-            tree_nodes: plain.sizes[node],
+            tree_nodes: plain.facts(node).size,
             table,
             node,
             target,
@@ -105,8 +105,9 @@ pub fn readings() -> Subject {
     Subject::new("padded, readings", &maker, node, target, 4)
 }
 
-/// A small record of 196 bits: (2^64 × (1 + 2^32)) × ((2 + 2^16) × (1 + 2^64)) × 2^16 and a bit.
-pub fn small() -> Subject {
+/// The types of a small record of 196 bits, (2^64 × (1 + 2^32)) × ((2 + 2^16) × (1 + 2^64)) × 2^16 and a bit: the table,
+/// the record's node and the target's.
+pub fn small_types() -> (TableMaker, u16, u16) {
     let mut maker = TableMaker::new();
     let (bit, w16, w32, w64) = (maker.word(0), maker.word(4), maker.word(5), maker.word(6));
     let maybe_32 = maker.shared(1, 0, w32);
@@ -123,6 +124,12 @@ pub fn small() -> Subject {
     let cut_end = maker.shared(2, w16, 0);
     let cut_tail = maker.shared(2, cut_right, cut_end);
     let target = maker.shared(2, cut_left, cut_tail);
+    (maker, node, target)
+}
+
+/// The small record.
+pub fn small() -> Subject {
+    let (maker, node, target) = small_types();
     Subject::new("small", &maker, node, target, 3)
 }
 

@@ -27,7 +27,8 @@ fn one(effort: Effort, name: &str, maker: &TableMaker) {
     println!("{name:44} {:>10} {:>10} {:>12}", words(check), words(check / maker.count() as f64), words(build));
 }
 
-fn random(count: u64) -> TableMaker {
+/// A table of so many nodes with random sides.
+pub fn random(count: u64) -> TableMaker {
     let mut random = Random::new(count);
     let mut maker = TableMaker::new();
     maker.push(0, 0, 0);

@@ -92,14 +92,14 @@ pub fn judge_in_place(published: &Published, q: &Request, expected: &Answer) -> 
 }
 
 fn same_class(q: &Request) -> bool {
-    q.table.classes[q.a.node as usize] == q.table.classes[q.b.node as usize]
+    q.table.facts(q.a.node as usize).class == q.table.facts(q.b.node as usize).class
 }
 
 /// The bits that accepted views show, one view after the other.
 fn viewed(q: &Request, accepted: &[u64]) -> Vec<bool> {
     let mut bits = Vec::new();
     for view in accepted.chunks_exact(2) {
-        let end = view[0] + q.table.widths[view[1] as usize];
+        let end = view[0] + q.table.facts(view[1] as usize).width;
         bits.extend((view[0]..end).map(|i| bit(q.a.bytes, i)));
     }
     bits
@@ -116,7 +116,7 @@ fn first_bits(bytes: &[u8], count: u64) -> Vec<bool> {
 /// A record's bits and those after it up to a whole number of bytes, as they lie; zero past the end of the bytes.
 fn whole_bytes(q: &Request, first: bool) -> Vec<bool> {
     let record = if first { q.a } else { q.b };
-    let width = q.table.widths[record.node as usize];
+    let width = q.table.facts(record.node as usize).width;
     let end = 8 * record.bytes.len() as u64;
     let last = record.offset + width.next_multiple_of(8);
     (record.offset..last).map(|i| i < end && bit(record.bytes, i)).collect()

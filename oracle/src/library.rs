@@ -1,10 +1,10 @@
 //! A request for any call of the port, and its answer: the one form in which all sides are asked.
 //!
 //! * `Call`: the calls, by the names of the C header without its prefix
-//! * `Columns`, `OwnedColumns`: a table with its facts, borrowed and owned
+//! * `Columns`, `OwnedColumns`: a table with its facts, borrowed and owned; `Facts`: those of one node, read again
 //! * `Record`, `Stream`: bytes with an offset and a node; bytes with a length and a position, in bits
 //! * `Request`: one call with everything handed in, and what lies in the lent outputs before
-//! * `Answer`: the result, and what lies in the lent outputs, columns and position after
+//! * `Answer`: the result, and what lies in the lent outputs, columns, groups and position after
 //! * `Library`: whoever answers (the model, or the archive through its C interface)
 
 /// Declares the calls with their names and the number of accepted values.
@@ -111,17 +111,41 @@ impl Call {
     }
 }
 
+/// The bytes of one node's facts in the groups.
+pub const GROUP_BYTES: usize = 19;
+
 /// A table with its facts, borrowed.
 #[derive(Clone, Copy, Debug, Default, PartialEq, Eq)]
 pub struct Columns<'a> {
     pub kinds: &'a [u8],
     pub lefts: &'a [u16],
     pub rights: &'a [u16],
-    pub widths: &'a [u64],
-    pub sizes: &'a [u64],
-    pub padded: &'a [u8],
-    pub classes: &'a [u16],
+    pub groups: &'a [u8],
     pub count: u64,
+}
+
+/// The facts of one node, as its group says them.
+#[derive(Clone, Copy, Debug, PartialEq, Eq)]
+pub struct Facts {
+    pub width: u64,
+    pub size: u64,
+    pub padded: u8,
+    pub class: u16,
+}
+
+impl Columns<'_> {
+    /// What a node's group says, right or wrong. Whoever makes requests and compares answers reads by this; the model
+    /// does not.
+    pub fn facts(&self, node: usize) -> Facts {
+        let group = &self.groups[GROUP_BYTES * node..][..GROUP_BYTES];
+        let number = |bytes: &[u8]| bytes.iter().rev().fold(0, |number, byte| number << 8 | u64::from(*byte));
+        Facts {
+            width: number(&group[..8]),
+            size: number(&group[8..16]),
+            padded: group[16],
+            class: number(&group[17..19]) as u16,
+        }
+    }
 }
 
 /// A table with its facts, owned. `count` is beside the lengths, since a hostile table may disagree with them.
@@ -130,10 +154,7 @@ pub struct OwnedColumns {
     pub kinds: Vec<u8>,
     pub lefts: Vec<u16>,
     pub rights: Vec<u16>,
-    pub widths: Vec<u64>,
-    pub sizes: Vec<u64>,
-    pub padded: Vec<u8>,
-    pub classes: Vec<u16>,
+    pub groups: Vec<u8>,
     pub count: u64,
 }
 
@@ -144,24 +165,23 @@ impl OwnedColumns {
             kinds: &self.kinds,
             lefts: &self.lefts,
             rights: &self.rights,
-            widths: &self.widths,
-            sizes: &self.sizes,
-            padded: &self.padded,
-            classes: &self.classes,
+            groups: &self.groups,
             count: self.count,
         }
     }
 
-    /// Columns of `length` entries each, all of them a mark that no call writes by chance.
+    /// What a node's group says, right or wrong.
+    pub fn facts(&self, node: usize) -> Facts {
+        self.lend().facts(node)
+    }
+
+    /// Columns of `length` entries each and so many groups, all of them a mark that no call writes by chance.
     pub fn marked(length: usize) -> OwnedColumns {
         OwnedColumns {
             kinds: vec![0xA5; length],
             lefts: vec![0xA5A5; length],
             rights: vec![0xA5A5; length],
-            widths: vec![0xA5A5_A5A5; length],
-            sizes: vec![0xA5A5_A5A5; length],
-            padded: vec![0xA5; length],
-            classes: vec![0xA5A5; length],
+            groups: vec![0xA5; GROUP_BYTES * length],
             count: length as u64,
         }
     }
@@ -171,10 +191,7 @@ impl OwnedColumns {
         refill(&mut self.kinds, from.kinds);
         refill(&mut self.lefts, from.lefts);
         refill(&mut self.rights, from.rights);
-        refill(&mut self.widths, from.widths);
-        refill(&mut self.sizes, from.sizes);
-        refill(&mut self.padded, from.padded);
-        refill(&mut self.classes, from.classes);
+        refill(&mut self.groups, from.groups);
         self.count = from.count;
     }
 }
@@ -199,7 +216,7 @@ pub struct Stream<'a> {
 #[derive(Clone, Copy, Debug)]
 pub struct Request<'a> {
     pub call: Call,
-    /// The table; for `read_table` and `fill_facts` also what lies in the output columns before.
+    /// The table; for `read_table` and `fill_facts` also what lies in the output columns and groups before.
     pub table: Columns<'a>,
     /// The record, or the first of two.
     pub a: Record<'a>,
@@ -254,7 +271,7 @@ pub struct Answer {
     pub values: Vec<u64>,
     pub position: u64,
     pub out: Vec<u8>,
-    /// The output columns of `read_table` and `fill_facts`; empty for other calls.
+    /// The output columns and groups of `read_table` and `fill_facts`; empty for other calls.
     pub columns: OwnedColumns,
 }
 

@@ -1,7 +1,7 @@
 //! The samples of the rules, asked of the model and of the crate's text.
 
 use oracle::agreement::{judge, Verdict};
-use oracle::library::{Answer, Call, Library, OwnedColumns, Record, Request, Stream};
+use oracle::library::{Answer, Call, Facts, Library, OwnedColumns, Record, Request, Stream, GROUP_BYTES};
 use oracle::model::Model;
 use oracle::published::Published;
 use oracle::supply::TableMaker;
@@ -115,7 +115,7 @@ fn word_19_fits_and_word_20_does_not() {
         answer.code
     };
     assert_eq!((zero(fits), zero(too_wide)), (0, 3));
-    assert_eq!(table.sizes[fits as usize], 2_097_151);
+    assert_eq!(table.facts(fits as usize).size, 2_097_151);
 }
 
 #[test]
@@ -125,7 +125,23 @@ fn the_sample_of_the_report() {
     let q = Request { data: &[3, 0, 1, 0, 0, 2, 1, 1], ..Request::new(Call::ReadTable, room.lend()) };
     Model::new().ask(&q, &mut answer);
     let t = &answer.columns;
-    assert_eq!((&t.widths[..3], &t.sizes[..3]), (&[0, 1, 2][..], &[1, 3, 7][..]));
-    assert_eq!((&t.padded[..3], &t.classes[..3]), (&[0, 0, 0][..], &[0, 1, 2][..]));
-    assert_eq!((t.kinds[3], t.widths[4]), (room.kinds[3], room.widths[4]), "entries past the count stay");
+    let facts = |width, size, class| Facts { width, size, padded: 0, class };
+    assert_eq!([0, 1, 2].map(|node| t.facts(node)), [facts(0, 1, 0), facts(1, 3, 1), facts(2, 7, 2)]);
+    assert_eq!(t.kinds[3], room.kinds[3], "entries past the count stay");
+    assert_eq!(t.groups[3 * GROUP_BYTES..], room.groups[3 * GROUP_BYTES..], "bytes past the count's groups stay");
+}
+
+#[test]
+fn a_group_is_width_size_padded_class_low_byte_first() {
+    let mut maker = TableMaker::new();
+    let word = maker.word(16);
+    // Enough nodes that a class takes two bytes.
+    while maker.count() < 300 {
+        maker.push(0, 0, 0);
+    }
+    let node = usize::from(maker.push(1, 0, word));
+    let group = &maker.finish().groups[GROUP_BYTES * node..];
+    let width = [1, 0, 1, 0, 0, 0, 0, 0];
+    let size = [1, 0, 4, 0, 0, 0, 0, 0];
+    assert_eq!(group, [&width[..], &size[..], &[1], &[0x2C, 0x01]].concat());
 }

@@ -7,6 +7,9 @@
 
 #![allow(unsafe_code)]
 
+/// The bytes of one node's facts in the groups, numbers low byte first: width 8, size 8, padded 1, class 2.
+pub const GROUP_BYTES: usize = 19;
+
 /// A table with its facts, as every call takes it. Nothing is assumed of it: each call checks it.
 #[derive(Clone, Copy, Debug, Default)]
 pub struct Columns<'a> {
@@ -16,19 +19,13 @@ pub struct Columns<'a> {
     pub lefts: &'a [u16],
     /// Right sides; 0 for unit.
     pub rights: &'a [u16],
-    /// Widths in bits.
-    pub widths: &'a [u64],
-    /// Sizes: the tree's nodes.
-    pub sizes: &'a [u64],
-    /// 1 where the type has padding.
-    pub padded: &'a [u8],
-    /// The smallest node with the same tree.
-    pub classes: &'a [u16],
+    /// The facts: node n's are the [`GROUP_BYTES`] bytes from byte `GROUP_BYTES * n` on.
+    pub groups: &'a [u8],
     /// How many nodes there are.
     pub count: u64,
 }
 
-/// The columns that `read_table` writes.
+/// The columns and groups that `read_table` writes.
 #[derive(Debug)]
 pub struct ColumnsMut<'a> {
     /// 0 unit, 1 sum, 2 product.
@@ -38,20 +35,7 @@ pub struct ColumnsMut<'a> {
     /// Right sides.
     pub rights: &'a mut [u16],
     /// The facts.
-    pub facts: FactsMut<'a>,
-}
-
-/// The columns that `fill_facts` writes.
-#[derive(Debug)]
-pub struct FactsMut<'a> {
-    /// Widths in bits.
-    pub widths: &'a mut [u64],
-    /// Sizes.
-    pub sizes: &'a mut [u64],
-    /// 1 where the type has padding.
-    pub padded: &'a mut [u8],
-    /// The smallest node with the same tree.
-    pub classes: &'a mut [u16],
+    pub groups: &'a mut [u8],
 }
 
 /// A record as the calls take it. Nothing is assumed of it.
@@ -65,23 +49,22 @@ pub struct RawRecord<'a> {
     pub node: u64,
 }
 
-/// Declares calls. Each parameter is a word and, but for `table` and `out`, a name:
-/// `table`, `columns`, `facts`: the columns, lent for reading or for writing;
-/// `entries`: kinds, lefts, rights and the count of a table without facts; `record`; `number`;
-/// `bytes`: a byte slice; `value`: one accepted number; `values`: a slice of them; `position`: in and out; `out`.
+/// Declares calls. Each parameter is a word and, from `record` on but for `out`, a name:
+/// `table`: columns, groups and count, lent for reading; `columns`: columns and groups, lent for writing;
+/// `entries`: kinds, lefts, rights and the count of a table without facts; `groups`: the groups alone, lent for writing;
+/// `record`; `number`; `bytes`: a byte slice; `value`: one accepted number, or a position in and out; `values`: a slice
+/// of accepted numbers; `out`.
 macro_rules! calls {
     ($($(#[$doc:meta])* fn $name:ident = $symbol:literal ($($given:tt)*);)*) => {
         $(calls!(@ [$(#[$doc])*] $name $symbol [] [] [] $($given)*);)*
     };
     (@ $d:tt $name:ident $symbol:literal [$($ext:tt)*] [$($par:tt)*] [$($arg:tt)*] table $(, $($rest:tt)*)?) => {
         calls!(@ $d $name $symbol
-            [$($ext)* _: *const u8, _: usize, _: *const u16, _: usize, _: *const u16, _: usize, _: *const u64,
-             _: usize, _: *const u64, _: usize, _: *const u8, _: usize, _: *const u16, _: usize, _: u64,]
+            [$($ext)* _: *const u8, _: usize, _: *const u16, _: usize, _: *const u16, _: usize, _: *const u8, _: usize,
+             _: u64,]
             [$($par)* table: &Columns<'_>,]
             [$($arg)* table.kinds.as_ptr(), table.kinds.len(), table.lefts.as_ptr(), table.lefts.len(),
-             table.rights.as_ptr(), table.rights.len(), table.widths.as_ptr(), table.widths.len(),
-             table.sizes.as_ptr(), table.sizes.len(), table.padded.as_ptr(), table.padded.len(),
-             table.classes.as_ptr(), table.classes.len(), table.count,]
+             table.rights.as_ptr(), table.rights.len(), table.groups.as_ptr(), table.groups.len(), table.count,]
             $($($rest)*)?);
     };
     (@ $d:tt $name:ident $symbol:literal [$($ext:tt)*] [$($par:tt)*] [$($arg:tt)*] entries $(, $($rest:tt)*)?) => {
@@ -93,22 +76,17 @@ macro_rules! calls {
     };
     (@ $d:tt $name:ident $symbol:literal [$($ext:tt)*] [$($par:tt)*] [$($arg:tt)*] columns $(, $($rest:tt)*)?) => {
         calls!(@ $d $name $symbol
-            [$($ext)* _: *mut u8, _: usize, _: *mut u16, _: usize, _: *mut u16, _: usize, _: *mut u64, _: usize,
-             _: *mut u64, _: usize, _: *mut u8, _: usize, _: *mut u16, _: usize,]
+            [$($ext)* _: *mut u8, _: usize, _: *mut u16, _: usize, _: *mut u16, _: usize, _: *mut u8, _: usize,]
             [$($par)* columns: ColumnsMut<'_>,]
             [$($arg)* columns.kinds.as_mut_ptr(), columns.kinds.len(), columns.lefts.as_mut_ptr(),
              columns.lefts.len(), columns.rights.as_mut_ptr(), columns.rights.len(),
-             columns.facts.widths.as_mut_ptr(), columns.facts.widths.len(), columns.facts.sizes.as_mut_ptr(),
-             columns.facts.sizes.len(), columns.facts.padded.as_mut_ptr(), columns.facts.padded.len(),
-             columns.facts.classes.as_mut_ptr(), columns.facts.classes.len(),]
+             columns.groups.as_mut_ptr(), columns.groups.len(),]
             $($($rest)*)?);
     };
-    (@ $d:tt $name:ident $symbol:literal [$($ext:tt)*] [$($par:tt)*] [$($arg:tt)*] facts $(, $($rest:tt)*)?) => {
+    (@ $d:tt $name:ident $symbol:literal [$($ext:tt)*] [$($par:tt)*] [$($arg:tt)*] groups $(, $($rest:tt)*)?) => {
         calls!(@ $d $name $symbol
-            [$($ext)* _: *mut u64, _: usize, _: *mut u64, _: usize, _: *mut u8, _: usize, _: *mut u16, _: usize,]
-            [$($par)* facts: FactsMut<'_>,]
-            [$($arg)* facts.widths.as_mut_ptr(), facts.widths.len(), facts.sizes.as_mut_ptr(), facts.sizes.len(),
-             facts.padded.as_mut_ptr(), facts.padded.len(), facts.classes.as_mut_ptr(), facts.classes.len(),]
+            [$($ext)* _: *mut u8, _: usize,] [$($par)* groups: &mut [u8],]
+            [$($arg)* groups.as_mut_ptr(), groups.len(),]
             $($($rest)*)?);
     };
     (@ $d:tt $name:ident $symbol:literal [$($ext:tt)*] [$($par:tt)*] [$($arg:tt)*] record $r:ident $(, $($rest:tt)*)?) => {
@@ -159,7 +137,7 @@ calls! {
     /// Reads a table file.
     fn read_table = "qv_read_table"(bytes file, columns, value count);
     /// Computes a table's facts.
-    fn fill_facts = "qv_fill_facts"(entries, facts);
+    fn fill_facts = "qv_fill_facts"(entries, groups);
     /// Checks a table and its facts.
     fn check_table = "qv_check_table"(table);
     /// Width, size, padded, class, kind, left, right: 7 values.

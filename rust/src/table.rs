@@ -1,7 +1,7 @@
-//! Tables: columns that the table owns, with their facts.
+//! Tables: columns that the table owns, with the groups of their facts.
 
 use crate::Refusal;
-use crate::raw::{self, Columns, ColumnsMut, FactsMut};
+use crate::raw::{self, Columns, ColumnsMut, GROUP_BYTES};
 
 /// The most nodes that a table has.
 const MOST_NODES: usize = 1024;
@@ -14,10 +14,7 @@ pub struct Table {
     kinds: Vec<u8>,
     lefts: Vec<u16>,
     rights: Vec<u16>,
-    widths: Vec<u64>,
-    sizes: Vec<u64>,
-    padded: Vec<u8>,
-    classes: Vec<u16>,
+    groups: Vec<u8>,
 }
 
 impl Table {
@@ -31,18 +28,18 @@ impl Table {
     /// # Ok::<(), quelomavunt::Refusal>(())
     /// ```
     pub fn from_file(file: &[u8]) -> Result<Table, Refusal> {
-        let mut table = Table::with_room(MOST_NODES);
+        let mut table = Table {
+            kinds: vec![0; MOST_NODES],
+            lefts: vec![0; MOST_NODES],
+            rights: vec![0; MOST_NODES],
+            groups: vec![0; GROUP_BYTES * MOST_NODES],
+        };
         let mut count = 0;
         let columns = ColumnsMut {
             kinds: &mut table.kinds,
             lefts: &mut table.lefts,
             rights: &mut table.rights,
-            facts: FactsMut {
-                widths: &mut table.widths,
-                sizes: &mut table.sizes,
-                padded: &mut table.padded,
-                classes: &mut table.classes,
-            },
+            groups: &mut table.groups,
         };
         Refusal::of(raw::read_table(file, columns, &mut count))?;
         table.cut_to(count as usize);
@@ -61,38 +58,17 @@ impl Table {
     /// ```
     pub fn from_columns(kinds: Vec<u8>, lefts: Vec<u16>, rights: Vec<u16>) -> Result<Table, Refusal> {
         let count = kinds.len().max(lefts.len()).max(rights.len());
-        let mut table = Table::with_room(count.min(MOST_NODES));
-        let facts = FactsMut {
-            widths: &mut table.widths,
-            sizes: &mut table.sizes,
-            padded: &mut table.padded,
-            classes: &mut table.classes,
-        };
+        let mut groups = vec![0; GROUP_BYTES * count.min(MOST_NODES)];
         // The longest column is the count: a shorter one is then a fault, as it should be.
-        Refusal::of(raw::fill_facts(&kinds, &lefts, &rights, count as u64, facts))?;
-        Ok(Table { kinds, lefts, rights, ..table })
-    }
-
-    fn with_room(count: usize) -> Table {
-        Table {
-            kinds: vec![0; count],
-            lefts: vec![0; count],
-            rights: vec![0; count],
-            widths: vec![0; count],
-            sizes: vec![0; count],
-            padded: vec![0; count],
-            classes: vec![0; count],
-        }
+        Refusal::of(raw::fill_facts(&kinds, &lefts, &rights, count as u64, &mut groups))?;
+        Ok(Table { kinds, lefts, rights, groups })
     }
 
     fn cut_to(&mut self, count: usize) {
         self.kinds.truncate(count);
         self.lefts.truncate(count);
         self.rights.truncate(count);
-        self.widths.truncate(count);
-        self.sizes.truncate(count);
-        self.padded.truncate(count);
-        self.classes.truncate(count);
+        self.groups.truncate(GROUP_BYTES * count);
     }
 
     /// How many nodes there are; at least 1.
@@ -112,16 +88,13 @@ impl Table {
         Refusal::of(raw::check_table(&self.columns()))
     }
 
-    /// The columns as the exported calls take them.
+    /// The columns and groups as the exported calls take them.
     pub fn columns(&self) -> Columns<'_> {
         Columns {
             kinds: &self.kinds,
             lefts: &self.lefts,
             rights: &self.rights,
-            widths: &self.widths,
-            sizes: &self.sizes,
-            padded: &self.padded,
-            classes: &self.classes,
+            groups: &self.groups,
             count: self.kinds.len() as u64,
         }
     }

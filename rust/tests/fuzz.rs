@@ -84,7 +84,7 @@ fn accepted_changes(call: &Call, before: &World, after: &World, told: &str) {
     if call.out.is_none() {
         assert!(before.out == after.out, "out stays: {told}");
     } else {
-        let bits = if call.stream { before.table.widths[before.node as usize] } else { after.value };
+        let bits = if call.stream { before.table.width(before.node) } else { after.value };
         let written = bits.div_ceil(8) as usize;
         assert!(before.out[written..] == after.out[written..], "later bytes stay: {told}");
         if bits % 8 != 0 {
@@ -128,21 +128,17 @@ fn break_something(random: &mut Random, w: &mut World) {
             let node = random.below(t.lefts.len() as u64) as usize;
             t.lefts[node] = random.number() as u16;
         }
-        20 => {
-            let node = random.below(t.widths.len() as u64) as usize;
-            t.widths[node] = random.number();
-        }
-        21 => {
-            let node = random.below(t.classes.len() as u64) as usize;
-            t.classes[node] = random.number() as u16;
+        20 | 21 => {
+            let byte = random.below(t.groups.len() as u64) as usize;
+            t.groups[byte] = random.next() as u8;
         }
         22 => {
-            let length = random.below(t.sizes.len() as u64 + 1) as usize;
-            t.sizes.truncate(length.max(1));
+            let length = random.below(t.groups.len() as u64 + 1) as usize;
+            t.groups.truncate(length.max(1));
         }
         _ => {
-            let node = random.below(t.padded.len() as u64) as usize;
-            t.padded[node] = random.next() as u8;
+            let more = random.bytes(40);
+            t.groups.extend(more);
         }
     }
 }

@@ -3,6 +3,7 @@
 
 mod support;
 
+use quelomavunt::raw::{self, GROUP_BYTES};
 use support::*;
 
 const FAR: [u64; 4] = [u64::MAX, u64::MAX - 7, 1 << 63, 1 << 61];
@@ -21,16 +22,21 @@ fn there_are_fifty_calls_and_each_accepts_its_good_world() {
     }
 }
 
+/// A count for which `GROUP_BYTES` times it, in 64 bits, is less than one group: the least count past a whole turn.
+fn count_that_turns_over() -> u64 {
+    u64::MAX / GROUP_BYTES as u64 + 1
+}
+
 #[test]
 fn a_bad_count_or_a_short_column_is_1_at_0() {
-    for call in calls().iter().filter(|call| call.table) {
+    for call in calls().iter().filter(|call| call.table || call.name == "fill_facts") {
         let count = call.good_world().table.count;
-        for bad in [0, count + 1, 1025, u64::MAX] {
+        for bad in [0, count + 1, 1025, count_that_turns_over(), u64::MAX] {
             let mut world = call.good_world();
             world.table.count = bad;
             call.refuses(world, 1, 0, "a bad count");
         }
-        for column in 0..7 {
+        for column in 0..3 {
             for length in [0, count as usize - 1] {
                 let mut world = call.good_world();
                 shorten(&mut world.table, column, length);
@@ -44,11 +50,44 @@ fn shorten(table: &mut Zoo, column: usize, length: usize) {
     match column {
         0 => table.kinds.truncate(length),
         1 => table.lefts.truncate(length),
-        2 => table.rights.truncate(length),
-        3 => table.widths.truncate(length),
-        4 => table.sizes.truncate(length),
-        5 => table.padded.truncate(length),
-        _ => table.classes.truncate(length),
+        _ => table.rights.truncate(length),
+    }
+}
+
+#[test]
+fn groups_hold_the_facts_low_byte_first() {
+    let zoo = Zoo::new();
+    for node in 0..zoo.count {
+        let mut facts = [0; 7];
+        assert_eq!(raw::facts_of(&zoo.columns(), node, &mut facts), 0);
+        let [width, size, padded, class, ..] = facts;
+        let mut group = Vec::new();
+        group.extend(width.to_le_bytes());
+        group.extend(size.to_le_bytes());
+        group.push(padded as u8);
+        group.extend((class as u16).to_le_bytes());
+        assert_eq!(zoo.groups[GROUP_BYTES * node as usize..][..GROUP_BYTES], group, "node {node}");
+    }
+}
+
+#[test]
+fn short_groups_are_1_at_0_where_they_are_read_and_9_where_they_are_written() {
+    for call in calls() {
+        let number = match call.name {
+            "fill_facts" | "read_table" => 9,
+            _ if call.table => 1,
+            _ => continue,
+        };
+        let nodes = if call.name == "read_table" { 10 } else { call.good_world().table.count as usize };
+        let needed = GROUP_BYTES * nodes;
+        for length in 0..needed {
+            let mut world = call.good_world();
+            world.table.groups.truncate(length);
+            call.refuses(world, number, 0, "short groups");
+        }
+        let mut world = call.good_world();
+        world.table.groups.truncate(needed);
+        call.accepts(world, "groups exactly as long as the count needs");
     }
 }
 
@@ -57,19 +96,20 @@ fn a_wrong_entry_or_fact_is_1_at_its_node() {
     for call in calls().iter().filter(|call| call.table) {
         let count = call.good_world().table.count as usize;
         for node in 0..count {
-            for column in 0..7 {
+            for column in 0..3 {
                 let mut world = call.good_world();
                 let t = &mut world.table;
                 match column {
                     0 => t.kinds[node] = 3,
                     1 => t.lefts[node] = node.max(1) as u16,
-                    2 => t.rights[node] = 1024,
-                    3 => t.widths[node] ^= 1,
-                    4 => t.sizes[node] = t.sizes[node].wrapping_add(1),
-                    5 => t.padded[node] ^= 2,
-                    _ => t.classes[node] ^= 1,
+                    _ => t.rights[node] = 1024,
                 }
-                call.refuses(world, 1, node as u64, "a wrong entry or fact");
+                call.refuses(world, 1, node as u64, "a wrong entry");
+            }
+            for byte in 0..GROUP_BYTES {
+                let mut world = call.good_world();
+                world.table.group(node)[byte] ^= 1 << (node % 8);
+                call.refuses(world, 1, node as u64, "a wrong byte of a group");
             }
         }
     }
@@ -83,11 +123,20 @@ fn what_lies_past_the_count_is_not_looked_at() {
         t.kinds.push(9);
         t.lefts.push(u16::MAX);
         t.rights.push(u16::MAX);
-        t.widths.push(u64::MAX);
-        t.sizes.push(0);
-        t.padded.push(7);
-        t.classes.push(u16::MAX);
-        call.accepts(world, "longer columns");
+        // Part of a group, too: nothing past the count's groups needs to be a whole one.
+        t.groups.extend([0xFF; GROUP_BYTES + 1]);
+        call.accepts(world, "longer columns and groups");
+    }
+}
+
+#[test]
+fn what_lies_past_the_count_is_not_written() {
+    for (name, nodes) in [("read_table", 10), ("fill_facts", Zoo::new().kinds.len())] {
+        let call = calls().into_iter().find(|call| call.name == name).expect("it is there");
+        let mut world = call.good_world();
+        world.table.groups = vec![0x77; GROUP_BYTES * nodes + 25];
+        let after = call.accepts(world, "longer groups").table.groups;
+        assert_eq!(after[GROUP_BYTES * nodes..], [0x77; 25], "{name}: later bytes stay");
     }
 }
 
@@ -143,7 +192,7 @@ fn a_record_or_stream_outside_its_bytes_is_5() {
         for which in 0..call.records {
             let world = call.good_world();
             let (bytes, _, node) = if which == 0 { &world.a } else { &world.b };
-            let width = world.table.widths[*node as usize];
+            let width = world.table.width(*node);
             let end = 8 * bytes.len() as u64;
             for offset in [end - width + 1, end, end + 1].into_iter().chain(FAR) {
                 let mut world = call.good_world();
@@ -171,7 +220,7 @@ fn a_record_or_stream_outside_its_bytes_is_5() {
 fn a_record_that_ends_with_its_bytes_fits() {
     for call in calls().iter().filter(|call| call.records == 1 && !matches!(call.name, "as_left" | "as_right")) {
         let mut world = call.good_world();
-        let width = world.table.widths[world.a.2 as usize];
+        let width = world.table.width(world.a.2);
         world.a.1 = 8 * world.a.0.len() as u64 - width;
         call.accepts(world, "the last bits");
     }
@@ -235,9 +284,9 @@ fn of_several_refusals_the_smallest_is_answered() {
             call.refuses(world.clone(), 2, 0, "2 before 3");
         }
         if call.table {
-            world.table.classes[30] = 0;
+            world.table.group(30)[0] ^= 1;
             call.refuses(world.clone(), 1, 30, "1 before 2");
-            world.table.padded[12] = 1;
+            world.table.group(12)[GROUP_BYTES - 1] ^= 1;
             call.refuses(world, 1, 12, "the first node at fault");
         }
     }
@@ -364,14 +413,15 @@ fn files_are_judged_whole_before_9() {
         let data = [file.clone(), surplus].concat();
         call.refuses(World { data, ..call.good_world() }, 1, 29, "a surplus byte");
     }
-    for column in 0..7 {
+    for column in 0..3 {
         let mut world = call.good_world();
         shorten(&mut world.table, column, 9);
         call.refuses(world.clone(), 9, 0, "a short column");
+        world.table.groups.clear();
         world.data.push(0);
-        call.refuses(world.clone(), 1, 29, "a surplus byte and a short column");
+        call.refuses(world.clone(), 1, 29, "a surplus byte, a short column and no groups");
         world.data.truncate(3);
-        call.refuses(world, 1, 3, "a cut file and a short column");
+        call.refuses(world, 1, 3, "a cut file, a short column and no groups");
         let mut world = call.good_world();
         shorten(&mut world.table, column, 10);
         call.accepts(world, "columns exactly as long as the count");

@@ -5,6 +5,5 @@ pub mod Numbers
 pub mod OfBytes
 pub mod Packed
 pub mod Parts
-pub mod Pasted
 pub mod Runs
 pub mod Stores

@@ -20,7 +20,7 @@ use Rattle.meaning.specs.Bits.{odd, toBits, bitsOf, zeros, room, bit, value, pa
 use Rattle.meaning.specs.Checked.{Bytes}
 use Rattle.bits.proofs.Numbers.{toBits-lower, toBits-zero, value-below, odd-bit}
 use Rattle.bits.proofs.OfBytes.{length-bitsOf, bitsOf-append, drop-bitsOf, bitsOf-injective, bytes-append, bytes-drop}
-use Rattle.bits.proofs.Pasted.{paste-front, paste-append}
+use Rattle.meaning.proofs.Pasted.{paste-front, paste-append}
 
 pub toBits-padded : (k : ℕ) (v : List Bool) → toBits k (value k v) ≡ take k v ++ zeros (k - length v)
 unfolding value toBits odd

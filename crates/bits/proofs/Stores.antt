@@ -15,7 +15,7 @@ use Rattle.meaning.specs.Bits.{toBits, bitsOf}
 use Rattle.bits.proofs.Numbers.{length-toBits}
 use Rattle.bits.proofs.OfBytes.{length-bitsOf, bitsOf-append}
 use Rattle.bits.proofs.Parts.{take-own}
-use Rattle.bits.proofs.Pasted.{paste-front, paste-inside, paste-on}
+use Rattle.meaning.proofs.Pasted.{paste-front, paste-inside, paste-on}
 
 -- The bits of the bytes before byte i, of byte i, and of those after it.
 around : (s : List ℕ) (i : ℕ) → i < length s

@@ -18,7 +18,7 @@ use lib.Seq.{paste}
 use Rattle.meaning.specs.Bits.{bitsOf, zeros, room, written}
 use Rattle.meaning.specs.Checked.{Bytes}
 use Rattle.bits.specs.Runs.{Run}
-use Rattle.bits.proofs.Pasted.{paste-take, paste-append, set-as-paste}
+use Rattle.meaning.proofs.Pasted.{paste-take, paste-append, set-as-paste}
 use Rattle.bits.proofs.Packed.{finished}
 use Rattle.codec.specs.Walks.{Span, Wrote}
 

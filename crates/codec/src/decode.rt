@@ -25,34 +25,21 @@ pub(crate) fn judge_compact(
     kinds: &[u8],
     lefts: &[u16],
     rights: &[u16],
-    widths: &[u64],
-    sizes: &[u64],
-    padded: &[u8],
-    classes: &[u16],
+    groups: &[u8],
     count: usize,
     src: &[u8],
     until: usize,
     at: usize,
     node: usize,
 ) -> End
-    requires { ⌜ Walk (table (now kinds) (now lefts) (now rights) (now widths) (now sizes) (now padded) (now classes) count) node ⌝ }
+    requires { ⌜ Walk (table (now kinds) (now lefts) (now rights) (now groups) count) node ⌝ }
     requires { ⌜ (at ≤ until) × (until ≤ 8 * length (now src)) ⌝ }
     ensures { λ r. ⌜ r ≡ endOf at (decodeCompact (tyAt (columns (now (kinds .entry)) (now (lefts .entry)) (now (rights .entry))) node) (drop at (take until (bitsOf (now (src .entry)))))) ⌝ }
 {
     let mut here = node;
     let mut from = at;
     loop {
-        let n = nodes::node_at(
-            kinds,
-            lefts,
-            rights,
-            widths,
-            sizes,
-            padded,
-            classes,
-            count,
-            here,
-        );
+        let n = nodes::node_at(kinds, lefts, rights, groups, count, here);
         if !n.padded {
             let w = n.width as usize;
             if until - from < w {
@@ -69,26 +56,13 @@ pub(crate) fn judge_compact(
             here = side.node;
             continue;
         }
-        let left = nodes::node_at(
-            kinds,
-            lefts,
-            rights,
-            widths,
-            sizes,
-            padded,
-            classes,
-            count,
-            n.left,
-        );
+        let left = nodes::node_at(kinds, lefts, rights, groups, count, n.left);
         if left.padded {
             let End::At(next) = judge_compact(
                 kinds,
                 lefts,
                 rights,
-                widths,
-                sizes,
-                padded,
-                classes,
+                groups,
                 count,
                 src,
                 until,
@@ -115,48 +89,22 @@ pub(crate) fn ends_early(
     kinds: &[u8],
     lefts: &[u16],
     rights: &[u16],
-    widths: &[u64],
-    sizes: &[u64],
-    padded: &[u8],
-    classes: &[u16],
+    groups: &[u8],
     count: usize,
     src: &[u8],
     until: usize,
     at: usize,
     node: usize,
 ) -> bool
-    requires { ⌜ Walk (table (now kinds) (now lefts) (now rights) (now widths) (now sizes) (now padded) (now classes) count) node ⌝ }
+    requires { ⌜ Walk (table (now kinds) (now lefts) (now rights) (now groups) count) node ⌝ }
     requires { ⌜ (at ≤ until) × (until ≤ 8 * length (now src)) ⌝ }
     ensures { λ r. ⌜ r ≡ isEarly (decodeCompact (tyAt (columns (now (kinds .entry)) (now (lefts .entry)) (now (rights .entry))) node) (drop at (take until (bitsOf (now (src .entry)))))) ⌝ }
 {
-    let width = width_of(
-        kinds,
-        lefts,
-        rights,
-        widths,
-        sizes,
-        padded,
-        classes,
-        count,
-        node,
-    );
+    let width = width_of(kinds, lefts, rights, groups, count, node);
     if width <= until - at {
         return false;
     }
-    match judge_compact(
-        kinds,
-        lefts,
-        rights,
-        widths,
-        sizes,
-        padded,
-        classes,
-        count,
-        src,
-        until,
-        at,
-        node,
-    ) {
+    match judge_compact(kinds, lefts, rights, groups, count, src, until, at, node) {
         End::At(_) => false,
         End::Early => true,
     }
@@ -167,10 +115,7 @@ pub(crate) fn read_compact(
     kinds: &[u8],
     lefts: &[u16],
     rights: &[u16],
-    widths: &[u64],
-    sizes: &[u64],
-    padded: &[u8],
-    classes: &[u16],
+    groups: &[u8],
     count: usize,
     src: &[u8],
     at: usize,
@@ -178,7 +123,7 @@ pub(crate) fn read_compact(
     out: &mut [u8],
     to: usize,
 ) -> usize
-    requires { ⌜ Walk (table (now kinds) (now lefts) (now rights) (now widths) (now sizes) (now padded) (now classes) count) node ⌝ }
+    requires { ⌜ Walk (table (now kinds) (now lefts) (now rights) (now groups) count) node ⌝ }
     requires { ⌜ isEarly (decodeCompact (tyAt (columns (now kinds) (now lefts) (now rights)) node) (drop at (bitsOf (now src)))) ≡ false ⌝ }
     requires { ⌜ Span (now src) at (consumed (decodeCompact (tyAt (columns (now kinds) (now lefts) (now rights)) node) (drop at (bitsOf (now src))))) ⌝ }
     requires { ⌜ Span (now out) to (bits (tyAt (columns (now kinds) (now lefts) (now rights)) node)) ⌝ }
@@ -188,17 +133,7 @@ pub(crate) fn read_compact(
     let mut from = at;
     let mut next = to;
     loop {
-        let n = nodes::node_at(
-            kinds,
-            lefts,
-            rights,
-            widths,
-            sizes,
-            padded,
-            classes,
-            count,
-            here,
-        );
+        let n = nodes::node_at(kinds, lefts, rights, groups, count, here);
         if !n.padded {
             let w = n.width as usize;
             bits::copy_bits(src, from, out, next, w);
@@ -215,26 +150,13 @@ pub(crate) fn read_compact(
             here = side.node;
             continue;
         }
-        let left = nodes::node_at(
-            kinds,
-            lefts,
-            rights,
-            widths,
-            sizes,
-            padded,
-            classes,
-            count,
-            n.left,
-        );
+        let left = nodes::node_at(kinds, lefts, rights, groups, count, n.left);
         if left.padded {
             from = read_compact(
                 kinds,
                 lefts,
                 rights,
-                widths,
-                sizes,
-                padded,
-                classes,
+                groups,
                 count,
                 src,
                 from,
@@ -257,51 +179,21 @@ pub(crate) fn read_record(
     kinds: &[u8],
     lefts: &[u16],
     rights: &[u16],
-    widths: &[u64],
-    sizes: &[u64],
-    padded: &[u8],
-    classes: &[u16],
+    groups: &[u8],
     count: usize,
     src: &[u8],
     at: usize,
     node: usize,
     out: &mut [u8],
 ) -> usize
-    requires { ⌜ Walk (table (now kinds) (now lefts) (now rights) (now widths) (now sizes) (now padded) (now classes) count) node ⌝ }
+    requires { ⌜ Walk (table (now kinds) (now lefts) (now rights) (now groups) count) node ⌝ }
     requires { ⌜ isEarly (decodeCompact (tyAt (columns (now kinds) (now lefts) (now rights)) node) (drop at (bitsOf (now src)))) ≡ false ⌝ }
     requires { ⌜ Span (now src) at (consumed (decodeCompact (tyAt (columns (now kinds) (now lefts) (now rights)) node) (drop at (bitsOf (now src))))) ⌝ }
     requires { ⌜ Span (now out) 0 (bits (tyAt (columns (now kinds) (now lefts) (now rights)) node)) ⌝ }
     ensures { λ r. ⌜ r ≡ at + consumed (decodeCompact (tyAt (columns (now (kinds .entry)) (now (lefts .entry)) (now (rights .entry))) node) (drop at (bitsOf (now (src .entry))))) ⌝ }
     ensures { λ _. ⌜ now (out .exit) ≡ written (recordOf (decodeCompact (tyAt (columns (now (kinds .entry)) (now (lefts .entry)) (now (rights .entry))) node) (drop at (bitsOf (now (src .entry)))))) (now (out .entry)) ⌝ }
 {
-    let next = read_compact(
-        kinds,
-        lefts,
-        rights,
-        widths,
-        sizes,
-        padded,
-        classes,
-        count,
-        src,
-        at,
-        node,
-        out,
-        0,
-    );
-    bits::finish(
-        out,
-        width_of(
-            kinds,
-            lefts,
-            rights,
-            widths,
-            sizes,
-            padded,
-            classes,
-            count,
-            node,
-        ),
-    );
+    let next = read_compact(kinds, lefts, rights, groups, count, src, at, node, out, 0);
+    bits::finish(out, width_of(kinds, lefts, rights, groups, count, node));
     next
 }

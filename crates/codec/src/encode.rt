@@ -17,16 +17,13 @@ pub(crate) fn count_compact(
     kinds: &[u8],
     lefts: &[u16],
     rights: &[u16],
-    widths: &[u64],
-    sizes: &[u64],
-    padded: &[u8],
-    classes: &[u16],
+    groups: &[u8],
     count: usize,
     src: &[u8],
     at: usize,
     node: usize,
 ) -> usize
-    requires { ⌜ Walk (table (now kinds) (now lefts) (now rights) (now widths) (now sizes) (now padded) (now classes) count) node ⌝ }
+    requires { ⌜ Walk (table (now kinds) (now lefts) (now rights) (now groups) count) node ⌝ }
     requires { ⌜ Span (now src) at (bits (tyAt (columns (now kinds) (now lefts) (now rights)) node)) ⌝ }
     ensures { λ r. ⌜ r ≡ length (compact (tyAt (columns (now (kinds .entry)) (now (lefts .entry)) (now (rights .entry))) node) (drop at (bitsOf (now (src .entry))))) ⌝ }
 {
@@ -34,17 +31,7 @@ pub(crate) fn count_compact(
     let mut from = at;
     let mut counted = 0;
     loop {
-        let n = nodes::node_at(
-            kinds,
-            lefts,
-            rights,
-            widths,
-            sizes,
-            padded,
-            classes,
-            count,
-            here,
-        );
+        let n = nodes::node_at(kinds, lefts, rights, groups, count, here);
         if !n.padded {
             return counted + n.width as usize;
         }
@@ -55,31 +42,9 @@ pub(crate) fn count_compact(
             here = side.node;
             continue;
         }
-        let left = nodes::node_at(
-            kinds,
-            lefts,
-            rights,
-            widths,
-            sizes,
-            padded,
-            classes,
-            count,
-            n.left,
-        );
+        let left = nodes::node_at(kinds, lefts, rights, groups, count, n.left);
         let first = if left.padded {
-            count_compact(
-                kinds,
-                lefts,
-                rights,
-                widths,
-                sizes,
-                padded,
-                classes,
-                count,
-                src,
-                from,
-                n.left,
-            )
+            count_compact(kinds, lefts, rights, groups, count, src, from, n.left)
         } else {
             left.width as usize
         };
@@ -95,47 +60,22 @@ pub(crate) fn compact_fits(
     kinds: &[u8],
     lefts: &[u16],
     rights: &[u16],
-    widths: &[u64],
-    sizes: &[u64],
-    padded: &[u8],
-    classes: &[u16],
+    groups: &[u8],
     count: usize,
     src: &[u8],
     at: usize,
     node: usize,
     space: usize,
 ) -> bool
-    requires { ⌜ Walk (table (now kinds) (now lefts) (now rights) (now widths) (now sizes) (now padded) (now classes) count) node ⌝ }
+    requires { ⌜ Walk (table (now kinds) (now lefts) (now rights) (now groups) count) node ⌝ }
     requires { ⌜ Span (now src) at (bits (tyAt (columns (now kinds) (now lefts) (now rights)) node)) ⌝ }
     ensures { λ r. ⌜ r ≡ leb (room (length (compact (tyAt (columns (now (kinds .entry)) (now (lefts .entry)) (now (rights .entry))) node) (drop at (bitsOf (now (src .entry))))))) space ⌝ }
 {
-    let width = width_of(
-        kinds,
-        lefts,
-        rights,
-        widths,
-        sizes,
-        padded,
-        classes,
-        count,
-        node,
-    );
+    let width = width_of(kinds, lefts, rights, groups, count, node);
     if (width + 7) / 8 <= space {
         return true;
     }
-    let n = count_compact(
-        kinds,
-        lefts,
-        rights,
-        widths,
-        sizes,
-        padded,
-        classes,
-        count,
-        src,
-        at,
-        node,
-    );
+    let n = count_compact(kinds, lefts, rights, groups, count, src, at, node);
     (n + 7) / 8 <= space
 }
 
@@ -144,10 +84,7 @@ pub(crate) fn write_compact(
     kinds: &[u8],
     lefts: &[u16],
     rights: &[u16],
-    widths: &[u64],
-    sizes: &[u64],
-    padded: &[u8],
-    classes: &[u16],
+    groups: &[u8],
     count: usize,
     src: &[u8],
     at: usize,
@@ -155,7 +92,7 @@ pub(crate) fn write_compact(
     out: &mut [u8],
     to: usize,
 ) -> usize
-    requires { ⌜ Walk (table (now kinds) (now lefts) (now rights) (now widths) (now sizes) (now padded) (now classes) count) node ⌝ }
+    requires { ⌜ Walk (table (now kinds) (now lefts) (now rights) (now groups) count) node ⌝ }
     requires { ⌜ Span (now src) at (bits (tyAt (columns (now kinds) (now lefts) (now rights)) node)) ⌝ }
     requires { ⌜ Span (now out) to (length (compact (tyAt (columns (now kinds) (now lefts) (now rights)) node) (drop at (bitsOf (now src))))) ⌝ }
     ensures { λ r. ⌜ Wrote (compact (tyAt (columns (now (kinds .entry)) (now (lefts .entry)) (now (rights .entry))) node) (drop at (bitsOf (now (src .entry))))) (now (out .entry)) to r (now (out .exit)) ⌝ }
@@ -164,17 +101,7 @@ pub(crate) fn write_compact(
     let mut from = at;
     let mut next = to;
     loop {
-        let n = nodes::node_at(
-            kinds,
-            lefts,
-            rights,
-            widths,
-            sizes,
-            padded,
-            classes,
-            count,
-            here,
-        );
+        let n = nodes::node_at(kinds, lefts, rights, groups, count, here);
         if !n.padded {
             let w = n.width as usize;
             bits::copy_bits(src, from, out, next, w);
@@ -189,26 +116,13 @@ pub(crate) fn write_compact(
             here = side.node;
             continue;
         }
-        let left = nodes::node_at(
-            kinds,
-            lefts,
-            rights,
-            widths,
-            sizes,
-            padded,
-            classes,
-            count,
-            n.left,
-        );
+        let left = nodes::node_at(kinds, lefts, rights, groups, count, n.left);
         if left.padded {
             next = write_compact(
                 kinds,
                 lefts,
                 rights,
-                widths,
-                sizes,
-                padded,
-                classes,
+                groups,
                 count,
                 src,
                 from,
@@ -231,37 +145,20 @@ pub(crate) fn write_record(
     kinds: &[u8],
     lefts: &[u16],
     rights: &[u16],
-    widths: &[u64],
-    sizes: &[u64],
-    padded: &[u8],
-    classes: &[u16],
+    groups: &[u8],
     count: usize,
     src: &[u8],
     at: usize,
     node: usize,
     out: &mut [u8],
 ) -> usize
-    requires { ⌜ Walk (table (now kinds) (now lefts) (now rights) (now widths) (now sizes) (now padded) (now classes) count) node ⌝ }
+    requires { ⌜ Walk (table (now kinds) (now lefts) (now rights) (now groups) count) node ⌝ }
     requires { ⌜ Span (now src) at (bits (tyAt (columns (now kinds) (now lefts) (now rights)) node)) ⌝ }
     requires { ⌜ Span (now out) 0 (length (compact (tyAt (columns (now kinds) (now lefts) (now rights)) node) (drop at (bitsOf (now src))))) ⌝ }
     ensures { λ r. ⌜ r ≡ length (compact (tyAt (columns (now (kinds .entry)) (now (lefts .entry)) (now (rights .entry))) node) (drop at (bitsOf (now (src .entry))))) ⌝ }
     ensures { λ _. ⌜ now (out .exit) ≡ written (compact (tyAt (columns (now (kinds .entry)) (now (lefts .entry)) (now (rights .entry))) node) (drop at (bitsOf (now (src .entry))))) (now (out .entry)) ⌝ }
 {
-    let end = write_compact(
-        kinds,
-        lefts,
-        rights,
-        widths,
-        sizes,
-        padded,
-        classes,
-        count,
-        src,
-        at,
-        node,
-        out,
-        0,
-    );
+    let end = write_compact(kinds, lefts, rights, groups, count, src, at, node, out, 0);
     bits::finish(out, end);
     end
 }

@@ -29,10 +29,7 @@ pub fn from_compact_bits(
     kinds: &[u8],
     lefts: &[u16],
     rights: &[u16],
-    widths: &[u64],
-    sizes: &[u64],
-    padded: &[u8],
-    classes: &[u16],
+    groups: &[u8],
     count: usize,
     bytes: &[u8],
     length: usize,
@@ -40,17 +37,14 @@ pub fn from_compact_bits(
     node: usize,
     out: &mut [u8],
 ) -> Count
-    ensures { λ r. ⌜ countOf r ≡ fromCompactCall (table (now (kinds .entry)) (now (lefts .entry)) (now (rights .entry)) (now (widths .entry)) (now (sizes .entry)) (now (padded .entry)) (now (classes .entry)) count) (stream-of (now (bytes .entry)) length position) node (now (out .entry)) ⌝ }
-    ensures { λ _. ⌜ now (out .exit) ≡ fromCompactOut (table (now (kinds .entry)) (now (lefts .entry)) (now (rights .entry)) (now (widths .entry)) (now (sizes .entry)) (now (padded .entry)) (now (classes .entry)) count) (stream-of (now (bytes .entry)) length position) node (now (out .entry)) ⌝ }
+    ensures { λ r. ⌜ countOf r ≡ fromCompactCall (table (now (kinds .entry)) (now (lefts .entry)) (now (rights .entry)) (now (groups .entry)) count) (stream-of (now (bytes .entry)) length position) node (now (out .entry)) ⌝ }
+    ensures { λ _. ⌜ now (out .exit) ≡ fromCompactOut (table (now (kinds .entry)) (now (lefts .entry)) (now (rights .entry)) (now (groups .entry)) count) (stream-of (now (bytes .entry)) length position) node (now (out .entry)) ⌝ }
 {
     let passed = gate::stream(
         kinds,
         lefts,
         rights,
-        widths,
-        sizes,
-        padded,
-        classes,
+        groups,
         count,
         bytes,
         length,
@@ -64,56 +58,20 @@ pub fn from_compact_bits(
     let src = &bytes[from..];
     let at = position % 8;
     let until = at + (length - position);
-    if ends_early(
-        kinds,
-        lefts,
-        rights,
-        widths,
-        sizes,
-        padded,
-        classes,
-        count,
-        src,
-        until,
-        at,
-        node,
-    ) {
+    if ends_early(kinds, lefts, rights, groups, count, src, until, at, node) {
         return Count::Refused(Refusal {
             number: 8,
             place: 0,
         });
     }
-    let width = width_of(
-        kinds,
-        lefts,
-        rights,
-        widths,
-        sizes,
-        padded,
-        classes,
-        count,
-        node,
-    );
+    let width = width_of(kinds, lefts, rights, groups, count, node);
     if out.len() < (width + 7) / 8 {
         return Count::Refused(Refusal {
             number: 9,
             place: 0,
         });
     }
-    let next = read_record(
-        kinds,
-        lefts,
-        rights,
-        widths,
-        sizes,
-        padded,
-        classes,
-        count,
-        src,
-        at,
-        node,
-        out,
-    );
+    let next = read_record(kinds, lefts, rights, groups, count, src, at, node, out);
     Count::Is(position + (next - at))
 }
 
@@ -122,10 +80,7 @@ pub fn from_padded_bits(
     kinds: &[u8],
     lefts: &[u16],
     rights: &[u16],
-    widths: &[u64],
-    sizes: &[u64],
-    padded: &[u8],
-    classes: &[u16],
+    groups: &[u8],
     count: usize,
     bytes: &[u8],
     length: usize,
@@ -133,17 +88,14 @@ pub fn from_padded_bits(
     node: usize,
     out: &mut [u8],
 ) -> Count
-    ensures { λ r. ⌜ countOf r ≡ fromPaddedCall (table (now (kinds .entry)) (now (lefts .entry)) (now (rights .entry)) (now (widths .entry)) (now (sizes .entry)) (now (padded .entry)) (now (classes .entry)) count) (stream-of (now (bytes .entry)) length position) node (now (out .entry)) ⌝ }
-    ensures { λ _. ⌜ now (out .exit) ≡ fromPaddedOut (table (now (kinds .entry)) (now (lefts .entry)) (now (rights .entry)) (now (widths .entry)) (now (sizes .entry)) (now (padded .entry)) (now (classes .entry)) count) (stream-of (now (bytes .entry)) length position) node (now (out .entry)) ⌝ }
+    ensures { λ r. ⌜ countOf r ≡ fromPaddedCall (table (now (kinds .entry)) (now (lefts .entry)) (now (rights .entry)) (now (groups .entry)) count) (stream-of (now (bytes .entry)) length position) node (now (out .entry)) ⌝ }
+    ensures { λ _. ⌜ now (out .exit) ≡ fromPaddedOut (table (now (kinds .entry)) (now (lefts .entry)) (now (rights .entry)) (now (groups .entry)) count) (stream-of (now (bytes .entry)) length position) node (now (out .entry)) ⌝ }
 {
     let passed = gate::stream(
         kinds,
         lefts,
         rights,
-        widths,
-        sizes,
-        padded,
-        classes,
+        groups,
         count,
         bytes,
         length,
@@ -156,17 +108,7 @@ pub fn from_padded_bits(
     let from = position / 8;
     let src = &bytes[from..];
     let at = position % 8;
-    let width = width_of(
-        kinds,
-        lefts,
-        rights,
-        widths,
-        sizes,
-        padded,
-        classes,
-        count,
-        node,
-    );
+    let width = width_of(kinds, lefts, rights, groups, count, node);
     if length - position < width {
         return Count::Refused(Refusal {
             number: 8,
@@ -188,32 +130,17 @@ pub fn to_compact_bits(
     kinds: &[u8],
     lefts: &[u16],
     rights: &[u16],
-    widths: &[u64],
-    sizes: &[u64],
-    padded: &[u8],
-    classes: &[u16],
+    groups: &[u8],
     count: usize,
     bytes: &[u8],
     offset: usize,
     node: usize,
     out: &mut [u8],
 ) -> Count
-    ensures { λ r. ⌜ countOf r ≡ toCompactCall (table (now (kinds .entry)) (now (lefts .entry)) (now (rights .entry)) (now (widths .entry)) (now (sizes .entry)) (now (padded .entry)) (now (classes .entry)) count) (record-of (now (bytes .entry)) offset node) (now (out .entry)) ⌝ }
-    ensures { λ _. ⌜ now (out .exit) ≡ toCompactOut (table (now (kinds .entry)) (now (lefts .entry)) (now (rights .entry)) (now (widths .entry)) (now (sizes .entry)) (now (padded .entry)) (now (classes .entry)) count) (record-of (now (bytes .entry)) offset node) (now (out .entry)) ⌝ }
+    ensures { λ r. ⌜ countOf r ≡ toCompactCall (table (now (kinds .entry)) (now (lefts .entry)) (now (rights .entry)) (now (groups .entry)) count) (record-of (now (bytes .entry)) offset node) (now (out .entry)) ⌝ }
+    ensures { λ _. ⌜ now (out .exit) ≡ toCompactOut (table (now (kinds .entry)) (now (lefts .entry)) (now (rights .entry)) (now (groups .entry)) count) (record-of (now (bytes .entry)) offset node) (now (out .entry)) ⌝ }
 {
-    let passed = gate::record(
-        kinds,
-        lefts,
-        rights,
-        widths,
-        sizes,
-        padded,
-        classes,
-        count,
-        bytes,
-        offset,
-        node,
-    );
+    let passed = gate::record(kinds, lefts, rights, groups, count, bytes, offset, node);
     if let Done::Refused(r) = passed {
         return Count::Refused(r);
     }
@@ -221,39 +148,13 @@ pub fn to_compact_bits(
     let src = &bytes[from..];
     let at = offset % 8;
     let space = out.len();
-    if !compact_fits(
-        kinds,
-        lefts,
-        rights,
-        widths,
-        sizes,
-        padded,
-        classes,
-        count,
-        src,
-        at,
-        node,
-        space,
-    ) {
+    if !compact_fits(kinds, lefts, rights, groups, count, src, at, node, space) {
         return Count::Refused(Refusal {
             number: 9,
             place: 0,
         });
     }
-    let n = write_record(
-        kinds,
-        lefts,
-        rights,
-        widths,
-        sizes,
-        padded,
-        classes,
-        count,
-        src,
-        at,
-        node,
-        out,
-    );
+    let n = write_record(kinds, lefts, rights, groups, count, src, at, node, out);
     Count::Is(n)
 }
 
@@ -262,49 +163,24 @@ pub fn to_padded_bits(
     kinds: &[u8],
     lefts: &[u16],
     rights: &[u16],
-    widths: &[u64],
-    sizes: &[u64],
-    padded: &[u8],
-    classes: &[u16],
+    groups: &[u8],
     count: usize,
     bytes: &[u8],
     offset: usize,
     node: usize,
     out: &mut [u8],
 ) -> Count
-    ensures { λ r. ⌜ countOf r ≡ toPaddedCall (table (now (kinds .entry)) (now (lefts .entry)) (now (rights .entry)) (now (widths .entry)) (now (sizes .entry)) (now (padded .entry)) (now (classes .entry)) count) (record-of (now (bytes .entry)) offset node) (now (out .entry)) ⌝ }
-    ensures { λ _. ⌜ now (out .exit) ≡ toPaddedOut (table (now (kinds .entry)) (now (lefts .entry)) (now (rights .entry)) (now (widths .entry)) (now (sizes .entry)) (now (padded .entry)) (now (classes .entry)) count) (record-of (now (bytes .entry)) offset node) (now (out .entry)) ⌝ }
+    ensures { λ r. ⌜ countOf r ≡ toPaddedCall (table (now (kinds .entry)) (now (lefts .entry)) (now (rights .entry)) (now (groups .entry)) count) (record-of (now (bytes .entry)) offset node) (now (out .entry)) ⌝ }
+    ensures { λ _. ⌜ now (out .exit) ≡ toPaddedOut (table (now (kinds .entry)) (now (lefts .entry)) (now (rights .entry)) (now (groups .entry)) count) (record-of (now (bytes .entry)) offset node) (now (out .entry)) ⌝ }
 {
-    let passed = gate::record(
-        kinds,
-        lefts,
-        rights,
-        widths,
-        sizes,
-        padded,
-        classes,
-        count,
-        bytes,
-        offset,
-        node,
-    );
+    let passed = gate::record(kinds, lefts, rights, groups, count, bytes, offset, node);
     if let Done::Refused(r) = passed {
         return Count::Refused(r);
     }
     let from = offset / 8;
     let src = &bytes[from..];
     let at = offset % 8;
-    let width = width_of(
-        kinds,
-        lefts,
-        rights,
-        widths,
-        sizes,
-        padded,
-        classes,
-        count,
-        node,
-    );
+    let width = width_of(kinds, lefts, rights, groups, count, node);
     if out.len() < (width + 7) / 8 {
         return Count::Refused(Refusal {
             number: 9,
@@ -320,30 +196,15 @@ pub fn compact_len(
     kinds: &[u8],
     lefts: &[u16],
     rights: &[u16],
-    widths: &[u64],
-    sizes: &[u64],
-    padded: &[u8],
-    classes: &[u16],
+    groups: &[u8],
     count: usize,
     bytes: &[u8],
     offset: usize,
     node: usize,
 ) -> Count
-    ensures { λ r. ⌜ countOf r ≡ compactLen (table (now (kinds .entry)) (now (lefts .entry)) (now (rights .entry)) (now (widths .entry)) (now (sizes .entry)) (now (padded .entry)) (now (classes .entry)) count) (record-of (now (bytes .entry)) offset node) ⌝ }
+    ensures { λ r. ⌜ countOf r ≡ compactLen (table (now (kinds .entry)) (now (lefts .entry)) (now (rights .entry)) (now (groups .entry)) count) (record-of (now (bytes .entry)) offset node) ⌝ }
 {
-    let passed = gate::record(
-        kinds,
-        lefts,
-        rights,
-        widths,
-        sizes,
-        padded,
-        classes,
-        count,
-        bytes,
-        offset,
-        node,
-    );
+    let passed = gate::record(kinds, lefts, rights, groups, count, bytes, offset, node);
     if let Done::Refused(r) = passed {
         return Count::Refused(r);
     }
@@ -352,10 +213,7 @@ pub fn compact_len(
         kinds,
         lefts,
         rights,
-        widths,
-        sizes,
-        padded,
-        classes,
+        groups,
         count,
         &bytes[from..],
         offset % 8,

@@ -32,15 +32,12 @@ pub(crate) fn width_of(
     kinds: &[u8],
     lefts: &[u16],
     rights: &[u16],
-    widths: &[u64],
-    sizes: &[u64],
-    padded: &[u8],
-    classes: &[u16],
+    groups: &[u8],
     count: usize,
     node: usize,
 ) -> usize
-    requires { ⌜ Walk (table (now kinds) (now lefts) (now rights) (now widths) (now sizes) (now padded) (now classes) count) node ⌝ }
+    requires { ⌜ Walk (table (now kinds) (now lefts) (now rights) (now groups) count) node ⌝ }
     ensures { λ r. ⌜ r ≡ bits (tyAt (columns (now (kinds .entry)) (now (lefts .entry)) (now (rights .entry))) node) ⌝ }
 {
-    widths[node] as usize
+    groups::width_at(groups, node) as usize
 }

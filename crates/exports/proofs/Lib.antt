@@ -6,3 +6,4 @@ mod Crossing
 mod Fronts
 mod States
 pub mod Results
+pub mod LayoutStates

@@ -14,7 +14,7 @@ use native.Mathlib.Numerals.{add-one}
 use lib.ListN.{length, getD}
 use lib.Dec.{ltb, leb}
 use borrow.Author.Tests.{leb-true}
-use Rattle.meaning.specs.Tables.{Columns, Facts, countRight}
+use Rattle.meaning.specs.Tables.{Columns, countRight}
 use Rattle.meaning.specs.Files.{Reading, faulty, found, andThen, groups, number, Entry, entryOf, entryFrom, entriesFrom, ended, tableIn}
 use Rattle.meaning.specs.Ladder.{Rung, rung, ladder}
 use Rattle.meaning.specs.TypeCalls.{fileRung, readTable}
@@ -122,5 +122,5 @@ unfolding ladder
 file-near (faulty p) rs n e h = record { near = omega arith }
 file-near (found es at) rs n e h = flat-near rs n h
 
-pub read-near : (file : List ℕ) (c : Columns) (f : Facts) → Near (readTable file c f)
-read-near file c f = file-near (tableIn file) _ _ (table-ends file) refl
+pub read-near : (file : List ℕ) (c : Columns) (g : List ℕ) → Near (readTable file c g)
+read-near file c g = file-near (tableIn file) _ _ (table-ends file) refl

@@ -11,10 +11,7 @@ pub extern "C" fn qv_buffer8_two_n_plus_one(
     kinds: &[u8],
     lefts: &[u16],
     rights: &[u16],
-    widths: &[u64],
-    sizes: &[u64],
-    padded: &[u8],
-    classes: &[u16],
+    groups: &[u8],
     count: usize,
     n: usize,
     data: &[u8],
@@ -22,25 +19,12 @@ pub extern "C" fn qv_buffer8_two_n_plus_one(
     width: &mut u64,
     out: &mut [u8],
 ) -> u64
-    ensures { λ r. ⌜ r ≡ code (bufferCall (table (now (kinds .entry)) (now (lefts .entry)) (now (rights .entry)) (now (widths .entry)) (now (sizes .entry)) (now (padded .entry)) (now (classes .entry)) count) n (now («data» .entry)) result (now (out .entry))) ⌝ }
-    ensures { λ _. ⌜ now (width .exit) ≡ stored (bufferCall (table (now (kinds .entry)) (now (lefts .entry)) (now (rights .entry)) (now (widths .entry)) (now (sizes .entry)) (now (padded .entry)) (now (classes .entry)) count) n (now («data» .entry)) result (now (out .entry))) (now (width .entry)) ⌝ }
-    ensures { λ _. ⌜ now (out .exit) ≡ bufferOut (table (now (kinds .entry)) (now (lefts .entry)) (now (rights .entry)) (now (widths .entry)) (now (sizes .entry)) (now (padded .entry)) (now (classes .entry)) count) n (now («data» .entry)) result (now (out .entry)) ⌝ }
+    ensures { λ r. ⌜ r ≡ code (bufferCall (table (now (kinds .entry)) (now (lefts .entry)) (now (rights .entry)) (now (groups .entry)) count) n (now («data» .entry)) result (now (out .entry))) ⌝ }
+    ensures { λ _. ⌜ now (width .exit) ≡ stored (bufferCall (table (now (kinds .entry)) (now (lefts .entry)) (now (rights .entry)) (now (groups .entry)) count) n (now («data» .entry)) result (now (out .entry))) (now (width .entry)) ⌝ }
+    ensures { λ _. ⌜ now (out .exit) ≡ bufferOut (table (now (kinds .entry)) (now (lefts .entry)) (now (rights .entry)) (now (groups .entry)) count) n (now («data» .entry)) result (now (out .entry)) ⌝ }
 {
     tell_count(
-        words::buffer8_two_n_plus_one(
-            kinds,
-            lefts,
-            rights,
-            widths,
-            sizes,
-            padded,
-            classes,
-            count,
-            n,
-            data,
-            result,
-            out,
-        ),
+        words::buffer8_two_n_plus_one(kinds, lefts, rights, groups, count, n, data, result, out),
         width,
     )
 }

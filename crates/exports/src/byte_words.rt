@@ -11,34 +11,19 @@ pub extern "C" fn qv_u8(
     kinds: &[u8],
     lefts: &[u16],
     rights: &[u16],
-    widths: &[u64],
-    sizes: &[u64],
-    padded: &[u8],
-    classes: &[u16],
+    groups: &[u8],
     count: usize,
     data: &[u8],
     result: usize,
     width: &mut u64,
     out: &mut [u8],
 ) -> u64
-    ensures { λ r. ⌜ r ≡ code (bytesCall (table (now (kinds .entry)) (now (lefts .entry)) (now (rights .entry)) (now (widths .entry)) (now (sizes .entry)) (now (padded .entry)) (now (classes .entry)) count) 3 (now («data» .entry)) result (now (out .entry))) ⌝ }
-    ensures { λ _. ⌜ now (width .exit) ≡ stored (bytesCall (table (now (kinds .entry)) (now (lefts .entry)) (now (rights .entry)) (now (widths .entry)) (now (sizes .entry)) (now (padded .entry)) (now (classes .entry)) count) 3 (now («data» .entry)) result (now (out .entry))) (now (width .entry)) ⌝ }
-    ensures { λ _. ⌜ now (out .exit) ≡ bytesOut (table (now (kinds .entry)) (now (lefts .entry)) (now (rights .entry)) (now (widths .entry)) (now (sizes .entry)) (now (padded .entry)) (now (classes .entry)) count) 3 (now («data» .entry)) result (now (out .entry)) ⌝ }
+    ensures { λ r. ⌜ r ≡ code (bytesCall (table (now (kinds .entry)) (now (lefts .entry)) (now (rights .entry)) (now (groups .entry)) count) 3 (now («data» .entry)) result (now (out .entry))) ⌝ }
+    ensures { λ _. ⌜ now (width .exit) ≡ stored (bytesCall (table (now (kinds .entry)) (now (lefts .entry)) (now (rights .entry)) (now (groups .entry)) count) 3 (now («data» .entry)) result (now (out .entry))) (now (width .entry)) ⌝ }
+    ensures { λ _. ⌜ now (out .exit) ≡ bytesOut (table (now (kinds .entry)) (now (lefts .entry)) (now (rights .entry)) (now (groups .entry)) count) 3 (now («data» .entry)) result (now (out .entry)) ⌝ }
 {
     tell_count(
-        words::u8(
-            kinds,
-            lefts,
-            rights,
-            widths,
-            sizes,
-            padded,
-            classes,
-            count,
-            data,
-            result,
-            out,
-        ),
+        words::u8(kinds, lefts, rights, groups, count, data, result, out),
         width,
     )
 }
@@ -49,34 +34,19 @@ pub extern "C" fn qv_u16(
     kinds: &[u8],
     lefts: &[u16],
     rights: &[u16],
-    widths: &[u64],
-    sizes: &[u64],
-    padded: &[u8],
-    classes: &[u16],
+    groups: &[u8],
     count: usize,
     data: &[u8],
     result: usize,
     width: &mut u64,
     out: &mut [u8],
 ) -> u64
-    ensures { λ r. ⌜ r ≡ code (bytesCall (table (now (kinds .entry)) (now (lefts .entry)) (now (rights .entry)) (now (widths .entry)) (now (sizes .entry)) (now (padded .entry)) (now (classes .entry)) count) 4 (now («data» .entry)) result (now (out .entry))) ⌝ }
-    ensures { λ _. ⌜ now (width .exit) ≡ stored (bytesCall (table (now (kinds .entry)) (now (lefts .entry)) (now (rights .entry)) (now (widths .entry)) (now (sizes .entry)) (now (padded .entry)) (now (classes .entry)) count) 4 (now («data» .entry)) result (now (out .entry))) (now (width .entry)) ⌝ }
-    ensures { λ _. ⌜ now (out .exit) ≡ bytesOut (table (now (kinds .entry)) (now (lefts .entry)) (now (rights .entry)) (now (widths .entry)) (now (sizes .entry)) (now (padded .entry)) (now (classes .entry)) count) 4 (now («data» .entry)) result (now (out .entry)) ⌝ }
+    ensures { λ r. ⌜ r ≡ code (bytesCall (table (now (kinds .entry)) (now (lefts .entry)) (now (rights .entry)) (now (groups .entry)) count) 4 (now («data» .entry)) result (now (out .entry))) ⌝ }
+    ensures { λ _. ⌜ now (width .exit) ≡ stored (bytesCall (table (now (kinds .entry)) (now (lefts .entry)) (now (rights .entry)) (now (groups .entry)) count) 4 (now («data» .entry)) result (now (out .entry))) (now (width .entry)) ⌝ }
+    ensures { λ _. ⌜ now (out .exit) ≡ bytesOut (table (now (kinds .entry)) (now (lefts .entry)) (now (rights .entry)) (now (groups .entry)) count) 4 (now («data» .entry)) result (now (out .entry)) ⌝ }
 {
     tell_count(
-        words::u16(
-            kinds,
-            lefts,
-            rights,
-            widths,
-            sizes,
-            padded,
-            classes,
-            count,
-            data,
-            result,
-            out,
-        ),
+        words::u16(kinds, lefts, rights, groups, count, data, result, out),
         width,
     )
 }
@@ -87,34 +57,19 @@ pub extern "C" fn qv_u32(
     kinds: &[u8],
     lefts: &[u16],
     rights: &[u16],
-    widths: &[u64],
-    sizes: &[u64],
-    padded: &[u8],
-    classes: &[u16],
+    groups: &[u8],
     count: usize,
     data: &[u8],
     result: usize,
     width: &mut u64,
     out: &mut [u8],
 ) -> u64
-    ensures { λ r. ⌜ r ≡ code (bytesCall (table (now (kinds .entry)) (now (lefts .entry)) (now (rights .entry)) (now (widths .entry)) (now (sizes .entry)) (now (padded .entry)) (now (classes .entry)) count) 5 (now («data» .entry)) result (now (out .entry))) ⌝ }
-    ensures { λ _. ⌜ now (width .exit) ≡ stored (bytesCall (table (now (kinds .entry)) (now (lefts .entry)) (now (rights .entry)) (now (widths .entry)) (now (sizes .entry)) (now (padded .entry)) (now (classes .entry)) count) 5 (now («data» .entry)) result (now (out .entry))) (now (width .entry)) ⌝ }
-    ensures { λ _. ⌜ now (out .exit) ≡ bytesOut (table (now (kinds .entry)) (now (lefts .entry)) (now (rights .entry)) (now (widths .entry)) (now (sizes .entry)) (now (padded .entry)) (now (classes .entry)) count) 5 (now («data» .entry)) result (now (out .entry)) ⌝ }
+    ensures { λ r. ⌜ r ≡ code (bytesCall (table (now (kinds .entry)) (now (lefts .entry)) (now (rights .entry)) (now (groups .entry)) count) 5 (now («data» .entry)) result (now (out .entry))) ⌝ }
+    ensures { λ _. ⌜ now (width .exit) ≡ stored (bytesCall (table (now (kinds .entry)) (now (lefts .entry)) (now (rights .entry)) (now (groups .entry)) count) 5 (now («data» .entry)) result (now (out .entry))) (now (width .entry)) ⌝ }
+    ensures { λ _. ⌜ now (out .exit) ≡ bytesOut (table (now (kinds .entry)) (now (lefts .entry)) (now (rights .entry)) (now (groups .entry)) count) 5 (now («data» .entry)) result (now (out .entry)) ⌝ }
 {
     tell_count(
-        words::u32(
-            kinds,
-            lefts,
-            rights,
-            widths,
-            sizes,
-            padded,
-            classes,
-            count,
-            data,
-            result,
-            out,
-        ),
+        words::u32(kinds, lefts, rights, groups, count, data, result, out),
         width,
     )
 }
@@ -125,34 +80,19 @@ pub extern "C" fn qv_u64(
     kinds: &[u8],
     lefts: &[u16],
     rights: &[u16],
-    widths: &[u64],
-    sizes: &[u64],
-    padded: &[u8],
-    classes: &[u16],
+    groups: &[u8],
     count: usize,
     data: &[u8],
     result: usize,
     width: &mut u64,
     out: &mut [u8],
 ) -> u64
-    ensures { λ r. ⌜ r ≡ code (bytesCall (table (now (kinds .entry)) (now (lefts .entry)) (now (rights .entry)) (now (widths .entry)) (now (sizes .entry)) (now (padded .entry)) (now (classes .entry)) count) 6 (now («data» .entry)) result (now (out .entry))) ⌝ }
-    ensures { λ _. ⌜ now (width .exit) ≡ stored (bytesCall (table (now (kinds .entry)) (now (lefts .entry)) (now (rights .entry)) (now (widths .entry)) (now (sizes .entry)) (now (padded .entry)) (now (classes .entry)) count) 6 (now («data» .entry)) result (now (out .entry))) (now (width .entry)) ⌝ }
-    ensures { λ _. ⌜ now (out .exit) ≡ bytesOut (table (now (kinds .entry)) (now (lefts .entry)) (now (rights .entry)) (now (widths .entry)) (now (sizes .entry)) (now (padded .entry)) (now (classes .entry)) count) 6 (now («data» .entry)) result (now (out .entry)) ⌝ }
+    ensures { λ r. ⌜ r ≡ code (bytesCall (table (now (kinds .entry)) (now (lefts .entry)) (now (rights .entry)) (now (groups .entry)) count) 6 (now («data» .entry)) result (now (out .entry))) ⌝ }
+    ensures { λ _. ⌜ now (width .exit) ≡ stored (bytesCall (table (now (kinds .entry)) (now (lefts .entry)) (now (rights .entry)) (now (groups .entry)) count) 6 (now («data» .entry)) result (now (out .entry))) (now (width .entry)) ⌝ }
+    ensures { λ _. ⌜ now (out .exit) ≡ bytesOut (table (now (kinds .entry)) (now (lefts .entry)) (now (rights .entry)) (now (groups .entry)) count) 6 (now («data» .entry)) result (now (out .entry)) ⌝ }
 {
     tell_count(
-        words::u64(
-            kinds,
-            lefts,
-            rights,
-            widths,
-            sizes,
-            padded,
-            classes,
-            count,
-            data,
-            result,
-            out,
-        ),
+        words::u64(kinds, lefts, rights, groups, count, data, result, out),
         width,
     )
 }
@@ -163,34 +103,19 @@ pub extern "C" fn qv_u128(
     kinds: &[u8],
     lefts: &[u16],
     rights: &[u16],
-    widths: &[u64],
-    sizes: &[u64],
-    padded: &[u8],
-    classes: &[u16],
+    groups: &[u8],
     count: usize,
     data: &[u8],
     result: usize,
     width: &mut u64,
     out: &mut [u8],
 ) -> u64
-    ensures { λ r. ⌜ r ≡ code (bytesCall (table (now (kinds .entry)) (now (lefts .entry)) (now (rights .entry)) (now (widths .entry)) (now (sizes .entry)) (now (padded .entry)) (now (classes .entry)) count) 7 (now («data» .entry)) result (now (out .entry))) ⌝ }
-    ensures { λ _. ⌜ now (width .exit) ≡ stored (bytesCall (table (now (kinds .entry)) (now (lefts .entry)) (now (rights .entry)) (now (widths .entry)) (now (sizes .entry)) (now (padded .entry)) (now (classes .entry)) count) 7 (now («data» .entry)) result (now (out .entry))) (now (width .entry)) ⌝ }
-    ensures { λ _. ⌜ now (out .exit) ≡ bytesOut (table (now (kinds .entry)) (now (lefts .entry)) (now (rights .entry)) (now (widths .entry)) (now (sizes .entry)) (now (padded .entry)) (now (classes .entry)) count) 7 (now («data» .entry)) result (now (out .entry)) ⌝ }
+    ensures { λ r. ⌜ r ≡ code (bytesCall (table (now (kinds .entry)) (now (lefts .entry)) (now (rights .entry)) (now (groups .entry)) count) 7 (now («data» .entry)) result (now (out .entry))) ⌝ }
+    ensures { λ _. ⌜ now (width .exit) ≡ stored (bytesCall (table (now (kinds .entry)) (now (lefts .entry)) (now (rights .entry)) (now (groups .entry)) count) 7 (now («data» .entry)) result (now (out .entry))) (now (width .entry)) ⌝ }
+    ensures { λ _. ⌜ now (out .exit) ≡ bytesOut (table (now (kinds .entry)) (now (lefts .entry)) (now (rights .entry)) (now (groups .entry)) count) 7 (now («data» .entry)) result (now (out .entry)) ⌝ }
 {
     tell_count(
-        words::u128(
-            kinds,
-            lefts,
-            rights,
-            widths,
-            sizes,
-            padded,
-            classes,
-            count,
-            data,
-            result,
-            out,
-        ),
+        words::u128(kinds, lefts, rights, groups, count, data, result, out),
         width,
     )
 }
@@ -201,34 +126,19 @@ pub extern "C" fn qv_u256(
     kinds: &[u8],
     lefts: &[u16],
     rights: &[u16],
-    widths: &[u64],
-    sizes: &[u64],
-    padded: &[u8],
-    classes: &[u16],
+    groups: &[u8],
     count: usize,
     data: &[u8],
     result: usize,
     width: &mut u64,
     out: &mut [u8],
 ) -> u64
-    ensures { λ r. ⌜ r ≡ code (bytesCall (table (now (kinds .entry)) (now (lefts .entry)) (now (rights .entry)) (now (widths .entry)) (now (sizes .entry)) (now (padded .entry)) (now (classes .entry)) count) 8 (now («data» .entry)) result (now (out .entry))) ⌝ }
-    ensures { λ _. ⌜ now (width .exit) ≡ stored (bytesCall (table (now (kinds .entry)) (now (lefts .entry)) (now (rights .entry)) (now (widths .entry)) (now (sizes .entry)) (now (padded .entry)) (now (classes .entry)) count) 8 (now («data» .entry)) result (now (out .entry))) (now (width .entry)) ⌝ }
-    ensures { λ _. ⌜ now (out .exit) ≡ bytesOut (table (now (kinds .entry)) (now (lefts .entry)) (now (rights .entry)) (now (widths .entry)) (now (sizes .entry)) (now (padded .entry)) (now (classes .entry)) count) 8 (now («data» .entry)) result (now (out .entry)) ⌝ }
+    ensures { λ r. ⌜ r ≡ code (bytesCall (table (now (kinds .entry)) (now (lefts .entry)) (now (rights .entry)) (now (groups .entry)) count) 8 (now («data» .entry)) result (now (out .entry))) ⌝ }
+    ensures { λ _. ⌜ now (width .exit) ≡ stored (bytesCall (table (now (kinds .entry)) (now (lefts .entry)) (now (rights .entry)) (now (groups .entry)) count) 8 (now («data» .entry)) result (now (out .entry))) (now (width .entry)) ⌝ }
+    ensures { λ _. ⌜ now (out .exit) ≡ bytesOut (table (now (kinds .entry)) (now (lefts .entry)) (now (rights .entry)) (now (groups .entry)) count) 8 (now («data» .entry)) result (now (out .entry)) ⌝ }
 {
     tell_count(
-        words::u256(
-            kinds,
-            lefts,
-            rights,
-            widths,
-            sizes,
-            padded,
-            classes,
-            count,
-            data,
-            result,
-            out,
-        ),
+        words::u256(kinds, lefts, rights, groups, count, data, result, out),
         width,
     )
 }
@@ -239,34 +149,19 @@ pub extern "C" fn qv_u512(
     kinds: &[u8],
     lefts: &[u16],
     rights: &[u16],
-    widths: &[u64],
-    sizes: &[u64],
-    padded: &[u8],
-    classes: &[u16],
+    groups: &[u8],
     count: usize,
     data: &[u8],
     result: usize,
     width: &mut u64,
     out: &mut [u8],
 ) -> u64
-    ensures { λ r. ⌜ r ≡ code (bytesCall (table (now (kinds .entry)) (now (lefts .entry)) (now (rights .entry)) (now (widths .entry)) (now (sizes .entry)) (now (padded .entry)) (now (classes .entry)) count) 9 (now («data» .entry)) result (now (out .entry))) ⌝ }
-    ensures { λ _. ⌜ now (width .exit) ≡ stored (bytesCall (table (now (kinds .entry)) (now (lefts .entry)) (now (rights .entry)) (now (widths .entry)) (now (sizes .entry)) (now (padded .entry)) (now (classes .entry)) count) 9 (now («data» .entry)) result (now (out .entry))) (now (width .entry)) ⌝ }
-    ensures { λ _. ⌜ now (out .exit) ≡ bytesOut (table (now (kinds .entry)) (now (lefts .entry)) (now (rights .entry)) (now (widths .entry)) (now (sizes .entry)) (now (padded .entry)) (now (classes .entry)) count) 9 (now («data» .entry)) result (now (out .entry)) ⌝ }
+    ensures { λ r. ⌜ r ≡ code (bytesCall (table (now (kinds .entry)) (now (lefts .entry)) (now (rights .entry)) (now (groups .entry)) count) 9 (now («data» .entry)) result (now (out .entry))) ⌝ }
+    ensures { λ _. ⌜ now (width .exit) ≡ stored (bytesCall (table (now (kinds .entry)) (now (lefts .entry)) (now (rights .entry)) (now (groups .entry)) count) 9 (now («data» .entry)) result (now (out .entry))) (now (width .entry)) ⌝ }
+    ensures { λ _. ⌜ now (out .exit) ≡ bytesOut (table (now (kinds .entry)) (now (lefts .entry)) (now (rights .entry)) (now (groups .entry)) count) 9 (now («data» .entry)) result (now (out .entry)) ⌝ }
 {
     tell_count(
-        words::u512(
-            kinds,
-            lefts,
-            rights,
-            widths,
-            sizes,
-            padded,
-            classes,
-            count,
-            data,
-            result,
-            out,
-        ),
+        words::u512(kinds, lefts, rights, groups, count, data, result, out),
         width,
     )
 }
@@ -277,34 +172,19 @@ pub extern "C" fn qv_from_byte_array(
     kinds: &[u8],
     lefts: &[u16],
     rights: &[u16],
-    widths: &[u64],
-    sizes: &[u64],
-    padded: &[u8],
-    classes: &[u16],
+    groups: &[u8],
     count: usize,
     data: &[u8],
     result: usize,
     width: &mut u64,
     out: &mut [u8],
 ) -> u64
-    ensures { λ r. ⌜ r ≡ code (arrayCall (table (now (kinds .entry)) (now (lefts .entry)) (now (rights .entry)) (now (widths .entry)) (now (sizes .entry)) (now (padded .entry)) (now (classes .entry)) count) (now («data» .entry)) result (now (out .entry))) ⌝ }
-    ensures { λ _. ⌜ now (width .exit) ≡ stored (arrayCall (table (now (kinds .entry)) (now (lefts .entry)) (now (rights .entry)) (now (widths .entry)) (now (sizes .entry)) (now (padded .entry)) (now (classes .entry)) count) (now («data» .entry)) result (now (out .entry))) (now (width .entry)) ⌝ }
-    ensures { λ _. ⌜ now (out .exit) ≡ arrayOut (table (now (kinds .entry)) (now (lefts .entry)) (now (rights .entry)) (now (widths .entry)) (now (sizes .entry)) (now (padded .entry)) (now (classes .entry)) count) (now («data» .entry)) result (now (out .entry)) ⌝ }
+    ensures { λ r. ⌜ r ≡ code (arrayCall (table (now (kinds .entry)) (now (lefts .entry)) (now (rights .entry)) (now (groups .entry)) count) (now («data» .entry)) result (now (out .entry))) ⌝ }
+    ensures { λ _. ⌜ now (width .exit) ≡ stored (arrayCall (table (now (kinds .entry)) (now (lefts .entry)) (now (rights .entry)) (now (groups .entry)) count) (now («data» .entry)) result (now (out .entry))) (now (width .entry)) ⌝ }
+    ensures { λ _. ⌜ now (out .exit) ≡ arrayOut (table (now (kinds .entry)) (now (lefts .entry)) (now (rights .entry)) (now (groups .entry)) count) (now («data» .entry)) result (now (out .entry)) ⌝ }
 {
     tell_count(
-        words::from_byte_array(
-            kinds,
-            lefts,
-            rights,
-            widths,
-            sizes,
-            padded,
-            classes,
-            count,
-            data,
-            result,
-            out,
-        ),
+        words::from_byte_array(kinds, lefts, rights, groups, count, data, result, out),
         width,
     )
 }

@@ -12,10 +12,7 @@ pub extern "C" fn qv_from_compact_bits(
     kinds: &[u8],
     lefts: &[u16],
     rights: &[u16],
-    widths: &[u64],
-    sizes: &[u64],
-    padded: &[u8],
-    classes: &[u16],
+    groups: &[u8],
     count: usize,
     bytes: &[u8],
     length: usize,
@@ -23,19 +20,16 @@ pub extern "C" fn qv_from_compact_bits(
     node: usize,
     out: &mut [u8],
 ) -> u64
-    ensures { λ r. ⌜ r ≡ code (fromCompactCall (table (now (kinds .entry)) (now (lefts .entry)) (now (rights .entry)) (now (widths .entry)) (now (sizes .entry)) (now (padded .entry)) (now (classes .entry)) count) (stream-of (now (bytes .entry)) length (now (position .entry))) node (now (out .entry))) ⌝ }
-    ensures { λ _. ⌜ now (position .exit) ≡ stored (fromCompactCall (table (now (kinds .entry)) (now (lefts .entry)) (now (rights .entry)) (now (widths .entry)) (now (sizes .entry)) (now (padded .entry)) (now (classes .entry)) count) (stream-of (now (bytes .entry)) length (now (position .entry))) node (now (out .entry))) (now (position .entry)) ⌝ }
-    ensures { λ _. ⌜ now (out .exit) ≡ fromCompactOut (table (now (kinds .entry)) (now (lefts .entry)) (now (rights .entry)) (now (widths .entry)) (now (sizes .entry)) (now (padded .entry)) (now (classes .entry)) count) (stream-of (now (bytes .entry)) length (now (position .entry))) node (now (out .entry)) ⌝ }
+    ensures { λ r. ⌜ r ≡ code (fromCompactCall (table (now (kinds .entry)) (now (lefts .entry)) (now (rights .entry)) (now (groups .entry)) count) (stream-of (now (bytes .entry)) length (now (position .entry))) node (now (out .entry))) ⌝ }
+    ensures { λ _. ⌜ now (position .exit) ≡ stored (fromCompactCall (table (now (kinds .entry)) (now (lefts .entry)) (now (rights .entry)) (now (groups .entry)) count) (stream-of (now (bytes .entry)) length (now (position .entry))) node (now (out .entry))) (now (position .entry)) ⌝ }
+    ensures { λ _. ⌜ now (out .exit) ≡ fromCompactOut (table (now (kinds .entry)) (now (lefts .entry)) (now (rights .entry)) (now (groups .entry)) count) (stream-of (now (bytes .entry)) length (now (position .entry))) node (now (out .entry)) ⌝ }
 {
     let from = *position as usize;
     let answer = codec::from_compact_bits(
         kinds,
         lefts,
         rights,
-        widths,
-        sizes,
-        padded,
-        classes,
+        groups,
         count,
         bytes,
         length,
@@ -52,10 +46,7 @@ pub extern "C" fn qv_from_padded_bits(
     kinds: &[u8],
     lefts: &[u16],
     rights: &[u16],
-    widths: &[u64],
-    sizes: &[u64],
-    padded: &[u8],
-    classes: &[u16],
+    groups: &[u8],
     count: usize,
     bytes: &[u8],
     length: usize,
@@ -63,19 +54,16 @@ pub extern "C" fn qv_from_padded_bits(
     node: usize,
     out: &mut [u8],
 ) -> u64
-    ensures { λ r. ⌜ r ≡ code (fromPaddedCall (table (now (kinds .entry)) (now (lefts .entry)) (now (rights .entry)) (now (widths .entry)) (now (sizes .entry)) (now (padded .entry)) (now (classes .entry)) count) (stream-of (now (bytes .entry)) length (now (position .entry))) node (now (out .entry))) ⌝ }
-    ensures { λ _. ⌜ now (position .exit) ≡ stored (fromPaddedCall (table (now (kinds .entry)) (now (lefts .entry)) (now (rights .entry)) (now (widths .entry)) (now (sizes .entry)) (now (padded .entry)) (now (classes .entry)) count) (stream-of (now (bytes .entry)) length (now (position .entry))) node (now (out .entry))) (now (position .entry)) ⌝ }
-    ensures { λ _. ⌜ now (out .exit) ≡ fromPaddedOut (table (now (kinds .entry)) (now (lefts .entry)) (now (rights .entry)) (now (widths .entry)) (now (sizes .entry)) (now (padded .entry)) (now (classes .entry)) count) (stream-of (now (bytes .entry)) length (now (position .entry))) node (now (out .entry)) ⌝ }
+    ensures { λ r. ⌜ r ≡ code (fromPaddedCall (table (now (kinds .entry)) (now (lefts .entry)) (now (rights .entry)) (now (groups .entry)) count) (stream-of (now (bytes .entry)) length (now (position .entry))) node (now (out .entry))) ⌝ }
+    ensures { λ _. ⌜ now (position .exit) ≡ stored (fromPaddedCall (table (now (kinds .entry)) (now (lefts .entry)) (now (rights .entry)) (now (groups .entry)) count) (stream-of (now (bytes .entry)) length (now (position .entry))) node (now (out .entry))) (now (position .entry)) ⌝ }
+    ensures { λ _. ⌜ now (out .exit) ≡ fromPaddedOut (table (now (kinds .entry)) (now (lefts .entry)) (now (rights .entry)) (now (groups .entry)) count) (stream-of (now (bytes .entry)) length (now (position .entry))) node (now (out .entry)) ⌝ }
 {
     let from = *position as usize;
     let answer = codec::from_padded_bits(
         kinds,
         lefts,
         rights,
-        widths,
-        sizes,
-        padded,
-        classes,
+        groups,
         count,
         bytes,
         length,
@@ -92,10 +80,7 @@ pub extern "C" fn qv_to_compact_bits(
     kinds: &[u8],
     lefts: &[u16],
     rights: &[u16],
-    widths: &[u64],
-    sizes: &[u64],
-    padded: &[u8],
-    classes: &[u16],
+    groups: &[u8],
     count: usize,
     bytes: &[u8],
     offset: usize,
@@ -103,19 +88,16 @@ pub extern "C" fn qv_to_compact_bits(
     bits: &mut u64,
     out: &mut [u8],
 ) -> u64
-    ensures { λ r. ⌜ r ≡ code (toCompactCall (table (now (kinds .entry)) (now (lefts .entry)) (now (rights .entry)) (now (widths .entry)) (now (sizes .entry)) (now (padded .entry)) (now (classes .entry)) count) (record-of (now (bytes .entry)) offset node) (now (out .entry))) ⌝ }
-    ensures { λ _. ⌜ now (bits .exit) ≡ stored (toCompactCall (table (now (kinds .entry)) (now (lefts .entry)) (now (rights .entry)) (now (widths .entry)) (now (sizes .entry)) (now (padded .entry)) (now (classes .entry)) count) (record-of (now (bytes .entry)) offset node) (now (out .entry))) (now (bits .entry)) ⌝ }
-    ensures { λ _. ⌜ now (out .exit) ≡ toCompactOut (table (now (kinds .entry)) (now (lefts .entry)) (now (rights .entry)) (now (widths .entry)) (now (sizes .entry)) (now (padded .entry)) (now (classes .entry)) count) (record-of (now (bytes .entry)) offset node) (now (out .entry)) ⌝ }
+    ensures { λ r. ⌜ r ≡ code (toCompactCall (table (now (kinds .entry)) (now (lefts .entry)) (now (rights .entry)) (now (groups .entry)) count) (record-of (now (bytes .entry)) offset node) (now (out .entry))) ⌝ }
+    ensures { λ _. ⌜ now (bits .exit) ≡ stored (toCompactCall (table (now (kinds .entry)) (now (lefts .entry)) (now (rights .entry)) (now (groups .entry)) count) (record-of (now (bytes .entry)) offset node) (now (out .entry))) (now (bits .entry)) ⌝ }
+    ensures { λ _. ⌜ now (out .exit) ≡ toCompactOut (table (now (kinds .entry)) (now (lefts .entry)) (now (rights .entry)) (now (groups .entry)) count) (record-of (now (bytes .entry)) offset node) (now (out .entry)) ⌝ }
 {
     tell_count(
         codec::to_compact_bits(
             kinds,
             lefts,
             rights,
-            widths,
-            sizes,
-            padded,
-            classes,
+            groups,
             count,
             bytes,
             offset,
@@ -132,10 +114,7 @@ pub extern "C" fn qv_to_padded_bits(
     kinds: &[u8],
     lefts: &[u16],
     rights: &[u16],
-    widths: &[u64],
-    sizes: &[u64],
-    padded: &[u8],
-    classes: &[u16],
+    groups: &[u8],
     count: usize,
     bytes: &[u8],
     offset: usize,
@@ -143,19 +122,16 @@ pub extern "C" fn qv_to_padded_bits(
     bits: &mut u64,
     out: &mut [u8],
 ) -> u64
-    ensures { λ r. ⌜ r ≡ code (toPaddedCall (table (now (kinds .entry)) (now (lefts .entry)) (now (rights .entry)) (now (widths .entry)) (now (sizes .entry)) (now (padded .entry)) (now (classes .entry)) count) (record-of (now (bytes .entry)) offset node) (now (out .entry))) ⌝ }
-    ensures { λ _. ⌜ now (bits .exit) ≡ stored (toPaddedCall (table (now (kinds .entry)) (now (lefts .entry)) (now (rights .entry)) (now (widths .entry)) (now (sizes .entry)) (now (padded .entry)) (now (classes .entry)) count) (record-of (now (bytes .entry)) offset node) (now (out .entry))) (now (bits .entry)) ⌝ }
-    ensures { λ _. ⌜ now (out .exit) ≡ toPaddedOut (table (now (kinds .entry)) (now (lefts .entry)) (now (rights .entry)) (now (widths .entry)) (now (sizes .entry)) (now (padded .entry)) (now (classes .entry)) count) (record-of (now (bytes .entry)) offset node) (now (out .entry)) ⌝ }
+    ensures { λ r. ⌜ r ≡ code (toPaddedCall (table (now (kinds .entry)) (now (lefts .entry)) (now (rights .entry)) (now (groups .entry)) count) (record-of (now (bytes .entry)) offset node) (now (out .entry))) ⌝ }
+    ensures { λ _. ⌜ now (bits .exit) ≡ stored (toPaddedCall (table (now (kinds .entry)) (now (lefts .entry)) (now (rights .entry)) (now (groups .entry)) count) (record-of (now (bytes .entry)) offset node) (now (out .entry))) (now (bits .entry)) ⌝ }
+    ensures { λ _. ⌜ now (out .exit) ≡ toPaddedOut (table (now (kinds .entry)) (now (lefts .entry)) (now (rights .entry)) (now (groups .entry)) count) (record-of (now (bytes .entry)) offset node) (now (out .entry)) ⌝ }
 {
     tell_count(
         codec::to_padded_bits(
             kinds,
             lefts,
             rights,
-            widths,
-            sizes,
-            padded,
-            classes,
+            groups,
             count,
             bytes,
             offset,

@@ -14,10 +14,7 @@ pub extern "C" fn qv_equal(
     kinds: &[u8],
     lefts: &[u16],
     rights: &[u16],
-    widths: &[u64],
-    sizes: &[u64],
-    padded: &[u8],
-    classes: &[u16],
+    groups: &[u8],
     count: usize,
     a_bytes: &[u8],
     a_offset: usize,
@@ -27,18 +24,15 @@ pub extern "C" fn qv_equal(
     b_node: usize,
     answer: &mut u64,
 ) -> u64
-    ensures { λ r. ⌜ r ≡ code (equal (table (now (kinds .entry)) (now (lefts .entry)) (now (rights .entry)) (now (widths .entry)) (now (sizes .entry)) (now (padded .entry)) (now (classes .entry)) count) (record-of (now («a_bytes» .entry)) «a_offset» «a_node») (record-of (now («b_bytes» .entry)) «b_offset» «b_node»)) ⌝ }
-    ensures { λ _. ⌜ now (answer .exit) ≡ storedFlag (equal (table (now (kinds .entry)) (now (lefts .entry)) (now (rights .entry)) (now (widths .entry)) (now (sizes .entry)) (now (padded .entry)) (now (classes .entry)) count) (record-of (now («a_bytes» .entry)) «a_offset» «a_node») (record-of (now («b_bytes» .entry)) «b_offset» «b_node»)) (now (answer .entry)) ⌝ }
+    ensures { λ r. ⌜ r ≡ code (equal (table (now (kinds .entry)) (now (lefts .entry)) (now (rights .entry)) (now (groups .entry)) count) (record-of (now («a_bytes» .entry)) «a_offset» «a_node») (record-of (now («b_bytes» .entry)) «b_offset» «b_node»)) ⌝ }
+    ensures { λ _. ⌜ now (answer .exit) ≡ storedFlag (equal (table (now (kinds .entry)) (now (lefts .entry)) (now (rights .entry)) (now (groups .entry)) count) (record-of (now («a_bytes» .entry)) «a_offset» «a_node») (record-of (now («b_bytes» .entry)) «b_offset» «b_node»)) (now (answer .entry)) ⌝ }
 {
     tell_flag(
         value::equal(
             kinds,
             lefts,
             rights,
-            widths,
-            sizes,
-            padded,
-            classes,
+            groups,
             count,
             a_bytes,
             a_offset,
@@ -57,10 +51,7 @@ pub extern "C" fn qv_compare(
     kinds: &[u8],
     lefts: &[u16],
     rights: &[u16],
-    widths: &[u64],
-    sizes: &[u64],
-    padded: &[u8],
-    classes: &[u16],
+    groups: &[u8],
     count: usize,
     a_bytes: &[u8],
     a_offset: usize,
@@ -70,18 +61,15 @@ pub extern "C" fn qv_compare(
     b_node: usize,
     order: &mut u64,
 ) -> u64
-    ensures { λ r. ⌜ r ≡ code (compareCall (table (now (kinds .entry)) (now (lefts .entry)) (now (rights .entry)) (now (widths .entry)) (now (sizes .entry)) (now (padded .entry)) (now (classes .entry)) count) (record-of (now («a_bytes» .entry)) «a_offset» «a_node») (record-of (now («b_bytes» .entry)) «b_offset» «b_node»)) ⌝ }
-    ensures { λ _. ⌜ now (order .exit) ≡ storedOrder (compareCall (table (now (kinds .entry)) (now (lefts .entry)) (now (rights .entry)) (now (widths .entry)) (now (sizes .entry)) (now (padded .entry)) (now (classes .entry)) count) (record-of (now («a_bytes» .entry)) «a_offset» «a_node») (record-of (now («b_bytes» .entry)) «b_offset» «b_node»)) (now (order .entry)) ⌝ }
+    ensures { λ r. ⌜ r ≡ code (compareCall (table (now (kinds .entry)) (now (lefts .entry)) (now (rights .entry)) (now (groups .entry)) count) (record-of (now («a_bytes» .entry)) «a_offset» «a_node») (record-of (now («b_bytes» .entry)) «b_offset» «b_node»)) ⌝ }
+    ensures { λ _. ⌜ now (order .exit) ≡ storedOrder (compareCall (table (now (kinds .entry)) (now (lefts .entry)) (now (rights .entry)) (now (groups .entry)) count) (record-of (now («a_bytes» .entry)) «a_offset» «a_node») (record-of (now («b_bytes» .entry)) «b_offset» «b_node»)) (now (order .entry)) ⌝ }
 {
     tell_order(
         value::compare(
             kinds,
             lefts,
             rights,
-            widths,
-            sizes,
-            padded,
-            classes,
+            groups,
             count,
             a_bytes,
             a_offset,
@@ -100,33 +88,18 @@ pub extern "C" fn qv_compact_len(
     kinds: &[u8],
     lefts: &[u16],
     rights: &[u16],
-    widths: &[u64],
-    sizes: &[u64],
-    padded: &[u8],
-    classes: &[u16],
+    groups: &[u8],
     count: usize,
     bytes: &[u8],
     offset: usize,
     node: usize,
     bits: &mut u64,
 ) -> u64
-    ensures { λ r. ⌜ r ≡ code (compactLen (table (now (kinds .entry)) (now (lefts .entry)) (now (rights .entry)) (now (widths .entry)) (now (sizes .entry)) (now (padded .entry)) (now (classes .entry)) count) (record-of (now (bytes .entry)) offset node)) ⌝ }
-    ensures { λ _. ⌜ now (bits .exit) ≡ stored (compactLen (table (now (kinds .entry)) (now (lefts .entry)) (now (rights .entry)) (now (widths .entry)) (now (sizes .entry)) (now (padded .entry)) (now (classes .entry)) count) (record-of (now (bytes .entry)) offset node)) (now (bits .entry)) ⌝ }
+    ensures { λ r. ⌜ r ≡ code (compactLen (table (now (kinds .entry)) (now (lefts .entry)) (now (rights .entry)) (now (groups .entry)) count) (record-of (now (bytes .entry)) offset node)) ⌝ }
+    ensures { λ _. ⌜ now (bits .exit) ≡ stored (compactLen (table (now (kinds .entry)) (now (lefts .entry)) (now (rights .entry)) (now (groups .entry)) count) (record-of (now (bytes .entry)) offset node)) (now (bits .entry)) ⌝ }
 {
     tell_count(
-        codec::compact_len(
-            kinds,
-            lefts,
-            rights,
-            widths,
-            sizes,
-            padded,
-            classes,
-            count,
-            bytes,
-            offset,
-            node,
-        ),
+        codec::compact_len(kinds, lefts, rights, groups, count, bytes, offset, node),
         bits,
     )
 }
@@ -137,33 +110,18 @@ pub extern "C" fn qv_padded_len(
     kinds: &[u8],
     lefts: &[u16],
     rights: &[u16],
-    widths: &[u64],
-    sizes: &[u64],
-    padded: &[u8],
-    classes: &[u16],
+    groups: &[u8],
     count: usize,
     bytes: &[u8],
     offset: usize,
     node: usize,
     bits: &mut u64,
 ) -> u64
-    ensures { λ r. ⌜ r ≡ code (paddedLen (table (now (kinds .entry)) (now (lefts .entry)) (now (rights .entry)) (now (widths .entry)) (now (sizes .entry)) (now (padded .entry)) (now (classes .entry)) count) (record-of (now (bytes .entry)) offset node)) ⌝ }
-    ensures { λ _. ⌜ now (bits .exit) ≡ stored (paddedLen (table (now (kinds .entry)) (now (lefts .entry)) (now (rights .entry)) (now (widths .entry)) (now (sizes .entry)) (now (padded .entry)) (now (classes .entry)) count) (record-of (now (bytes .entry)) offset node)) (now (bits .entry)) ⌝ }
+    ensures { λ r. ⌜ r ≡ code (paddedLen (table (now (kinds .entry)) (now (lefts .entry)) (now (rights .entry)) (now (groups .entry)) count) (record-of (now (bytes .entry)) offset node)) ⌝ }
+    ensures { λ _. ⌜ now (bits .exit) ≡ stored (paddedLen (table (now (kinds .entry)) (now (lefts .entry)) (now (rights .entry)) (now (groups .entry)) count) (record-of (now (bytes .entry)) offset node)) (now (bits .entry)) ⌝ }
 {
     tell_count(
-        value::padded_len(
-            kinds,
-            lefts,
-            rights,
-            widths,
-            sizes,
-            padded,
-            classes,
-            count,
-            bytes,
-            offset,
-            node,
-        ),
+        value::padded_len(kinds, lefts, rights, groups, count, bytes, offset, node),
         bits,
     )
 }

@@ -62,10 +62,7 @@ pub extern "C" fn qv_ctx8(
     kinds: &[u8],
     lefts: &[u16],
     rights: &[u16],
-    widths: &[u64],
-    sizes: &[u64],
-    padded: &[u8],
-    classes: &[u16],
+    groups: &[u8],
     count: usize,
     midstate: &[u8],
     bytes_hashed: u64,
@@ -74,25 +71,13 @@ pub extern "C" fn qv_ctx8(
     width: &mut u64,
     out: &mut [u8],
 ) -> u64
-    ensures { λ r. ⌜ r ≡ code (ctx8Handed (table (now (kinds .entry)) (now (lefts .entry)) (now (rights .entry)) (now (widths .entry)) (now (sizes .entry)) (now (padded .entry)) (now (classes .entry)) count) (now (midstate .entry)) «bytes_hashed» (now (buffer .entry)) result (now (out .entry))) ⌝ }
-    ensures { λ _. ⌜ now (width .exit) ≡ stored (ctx8Handed (table (now (kinds .entry)) (now (lefts .entry)) (now (rights .entry)) (now (widths .entry)) (now (sizes .entry)) (now (padded .entry)) (now (classes .entry)) count) (now (midstate .entry)) «bytes_hashed» (now (buffer .entry)) result (now (out .entry))) (now (width .entry)) ⌝ }
-    ensures { λ _. ⌜ now (out .exit) ≡ ctx8HandedOut (table (now (kinds .entry)) (now (lefts .entry)) (now (rights .entry)) (now (widths .entry)) (now (sizes .entry)) (now (padded .entry)) (now (classes .entry)) count) (now (midstate .entry)) «bytes_hashed» (now (buffer .entry)) result (now (out .entry)) ⌝ }
+    ensures { λ r. ⌜ r ≡ code (ctx8Handed (table (now (kinds .entry)) (now (lefts .entry)) (now (rights .entry)) (now (groups .entry)) count) (now (midstate .entry)) «bytes_hashed» (now (buffer .entry)) result (now (out .entry))) ⌝ }
+    ensures { λ _. ⌜ now (width .exit) ≡ stored (ctx8Handed (table (now (kinds .entry)) (now (lefts .entry)) (now (rights .entry)) (now (groups .entry)) count) (now (midstate .entry)) «bytes_hashed» (now (buffer .entry)) result (now (out .entry))) (now (width .entry)) ⌝ }
+    ensures { λ _. ⌜ now (out .exit) ≡ ctx8HandedOut (table (now (kinds .entry)) (now (lefts .entry)) (now (rights .entry)) (now (groups .entry)) count) (now (midstate .entry)) «bytes_hashed» (now (buffer .entry)) result (now (out .entry)) ⌝ }
 {
     let state = hash_state(midstate, bytes_hashed, buffer);
     tell_count(
-        words::ctx8(
-            kinds,
-            lefts,
-            rights,
-            widths,
-            sizes,
-            padded,
-            classes,
-            count,
-            state,
-            result,
-            out,
-        ),
+        words::ctx8(kinds, lefts, rights, groups, count, state, result, out),
         width,
     )
 }

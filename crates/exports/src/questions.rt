@@ -14,29 +14,16 @@ pub extern "C" fn qv_facts_of(
     kinds: &[u8],
     lefts: &[u16],
     rights: &[u16],
-    widths: &[u64],
-    sizes: &[u64],
-    padded: &[u8],
-    classes: &[u16],
+    groups: &[u8],
     count: usize,
     node: usize,
     facts: &mut [u64],
 ) -> u64
-    ensures { λ r. ⌜ r ≡ code (roomy factsList (now (facts .entry)) (factsOf (table (now (kinds .entry)) (now (lefts .entry)) (now (rights .entry)) (now (widths .entry)) (now (sizes .entry)) (now (padded .entry)) (now (classes .entry)) count) node)) ⌝ }
-    ensures { λ _. ⌜ now (facts .exit) ≡ storedAll factsList (roomy factsList (now (facts .entry)) (factsOf (table (now (kinds .entry)) (now (lefts .entry)) (now (rights .entry)) (now (widths .entry)) (now (sizes .entry)) (now (padded .entry)) (now (classes .entry)) count) node)) (now (facts .entry)) ⌝ }
+    ensures { λ r. ⌜ r ≡ code (roomy factsList (now (facts .entry)) (factsOf (table (now (kinds .entry)) (now (lefts .entry)) (now (rights .entry)) (now (groups .entry)) count) node)) ⌝ }
+    ensures { λ _. ⌜ now (facts .exit) ≡ storedAll factsList (roomy factsList (now (facts .entry)) (factsOf (table (now (kinds .entry)) (now (lefts .entry)) (now (rights .entry)) (now (groups .entry)) count) node)) (now (facts .entry)) ⌝ }
 {
     tell_facts(
-        table::facts_of(
-            kinds,
-            lefts,
-            rights,
-            widths,
-            sizes,
-            padded,
-            classes,
-            count,
-            node,
-        ),
+        table::facts_of(kinds, lefts, rights, groups, count, node),
         facts,
     )
 }
@@ -47,31 +34,17 @@ pub extern "C" fn qv_same_type(
     kinds: &[u8],
     lefts: &[u16],
     rights: &[u16],
-    widths: &[u64],
-    sizes: &[u64],
-    padded: &[u8],
-    classes: &[u16],
+    groups: &[u8],
     count: usize,
     a: usize,
     b: usize,
     answer: &mut u64,
 ) -> u64
-    ensures { λ r. ⌜ r ≡ code (sameType (table (now (kinds .entry)) (now (lefts .entry)) (now (rights .entry)) (now (widths .entry)) (now (sizes .entry)) (now (padded .entry)) (now (classes .entry)) count) a b) ⌝ }
-    ensures { λ _. ⌜ now (answer .exit) ≡ storedFlag (sameType (table (now (kinds .entry)) (now (lefts .entry)) (now (rights .entry)) (now (widths .entry)) (now (sizes .entry)) (now (padded .entry)) (now (classes .entry)) count) a b) (now (answer .entry)) ⌝ }
+    ensures { λ r. ⌜ r ≡ code (sameType (table (now (kinds .entry)) (now (lefts .entry)) (now (rights .entry)) (now (groups .entry)) count) a b) ⌝ }
+    ensures { λ _. ⌜ now (answer .exit) ≡ storedFlag (sameType (table (now (kinds .entry)) (now (lefts .entry)) (now (rights .entry)) (now (groups .entry)) count) a b) (now (answer .entry)) ⌝ }
 {
     tell_flag(
-        table::same_type(
-            kinds,
-            lefts,
-            rights,
-            widths,
-            sizes,
-            padded,
-            classes,
-            count,
-            a,
-            b,
-        ),
+        table::same_type(kinds, lefts, rights, groups, count, a, b),
         answer,
     )
 }
@@ -82,29 +55,16 @@ pub extern "C" fn qv_is_unit(
     kinds: &[u8],
     lefts: &[u16],
     rights: &[u16],
-    widths: &[u64],
-    sizes: &[u64],
-    padded: &[u8],
-    classes: &[u16],
+    groups: &[u8],
     count: usize,
     node: usize,
     answer: &mut u64,
 ) -> u64
-    ensures { λ r. ⌜ r ≡ code (isUnitCall (table (now (kinds .entry)) (now (lefts .entry)) (now (rights .entry)) (now (widths .entry)) (now (sizes .entry)) (now (padded .entry)) (now (classes .entry)) count) node) ⌝ }
-    ensures { λ _. ⌜ now (answer .exit) ≡ storedFlag (isUnitCall (table (now (kinds .entry)) (now (lefts .entry)) (now (rights .entry)) (now (widths .entry)) (now (sizes .entry)) (now (padded .entry)) (now (classes .entry)) count) node) (now (answer .entry)) ⌝ }
+    ensures { λ r. ⌜ r ≡ code (isUnitCall (table (now (kinds .entry)) (now (lefts .entry)) (now (rights .entry)) (now (groups .entry)) count) node) ⌝ }
+    ensures { λ _. ⌜ now (answer .exit) ≡ storedFlag (isUnitCall (table (now (kinds .entry)) (now (lefts .entry)) (now (rights .entry)) (now (groups .entry)) count) node) (now (answer .entry)) ⌝ }
 {
     tell_flag(
-        table::is_unit(
-            kinds,
-            lefts,
-            rights,
-            widths,
-            sizes,
-            padded,
-            classes,
-            count,
-            node,
-        ),
+        table::is_unit(kinds, lefts, rights, groups, count, node),
         answer,
     )
 }
@@ -115,29 +75,16 @@ pub extern "C" fn qv_is_empty(
     kinds: &[u8],
     lefts: &[u16],
     rights: &[u16],
-    widths: &[u64],
-    sizes: &[u64],
-    padded: &[u8],
-    classes: &[u16],
+    groups: &[u8],
     count: usize,
     node: usize,
     answer: &mut u64,
 ) -> u64
-    ensures { λ r. ⌜ r ≡ code (isEmptyCall (table (now (kinds .entry)) (now (lefts .entry)) (now (rights .entry)) (now (widths .entry)) (now (sizes .entry)) (now (padded .entry)) (now (classes .entry)) count) node) ⌝ }
-    ensures { λ _. ⌜ now (answer .exit) ≡ storedFlag (isEmptyCall (table (now (kinds .entry)) (now (lefts .entry)) (now (rights .entry)) (now (widths .entry)) (now (sizes .entry)) (now (padded .entry)) (now (classes .entry)) count) node) (now (answer .entry)) ⌝ }
+    ensures { λ r. ⌜ r ≡ code (isEmptyCall (table (now (kinds .entry)) (now (lefts .entry)) (now (rights .entry)) (now (groups .entry)) count) node) ⌝ }
+    ensures { λ _. ⌜ now (answer .exit) ≡ storedFlag (isEmptyCall (table (now (kinds .entry)) (now (lefts .entry)) (now (rights .entry)) (now (groups .entry)) count) node) (now (answer .entry)) ⌝ }
 {
     tell_flag(
-        table::is_empty(
-            kinds,
-            lefts,
-            rights,
-            widths,
-            sizes,
-            padded,
-            classes,
-            count,
-            node,
-        ),
+        table::is_empty(kinds, lefts, rights, groups, count, node),
         answer,
     )
 }
@@ -148,29 +95,16 @@ pub extern "C" fn qv_type_as_sum(
     kinds: &[u8],
     lefts: &[u16],
     rights: &[u16],
-    widths: &[u64],
-    sizes: &[u64],
-    padded: &[u8],
-    classes: &[u16],
+    groups: &[u8],
     count: usize,
     node: usize,
     sides: &mut [u64],
 ) -> u64
-    ensures { λ r. ⌜ r ≡ code (roomy sidesList (now (sides .entry)) (typeAsSum (table (now (kinds .entry)) (now (lefts .entry)) (now (rights .entry)) (now (widths .entry)) (now (sizes .entry)) (now (padded .entry)) (now (classes .entry)) count) node)) ⌝ }
-    ensures { λ _. ⌜ now (sides .exit) ≡ storedAll sidesList (roomy sidesList (now (sides .entry)) (typeAsSum (table (now (kinds .entry)) (now (lefts .entry)) (now (rights .entry)) (now (widths .entry)) (now (sizes .entry)) (now (padded .entry)) (now (classes .entry)) count) node)) (now (sides .entry)) ⌝ }
+    ensures { λ r. ⌜ r ≡ code (roomy sidesList (now (sides .entry)) (typeAsSum (table (now (kinds .entry)) (now (lefts .entry)) (now (rights .entry)) (now (groups .entry)) count) node)) ⌝ }
+    ensures { λ _. ⌜ now (sides .exit) ≡ storedAll sidesList (roomy sidesList (now (sides .entry)) (typeAsSum (table (now (kinds .entry)) (now (lefts .entry)) (now (rights .entry)) (now (groups .entry)) count) node)) (now (sides .entry)) ⌝ }
 {
     tell_sides(
-        table::as_sum(
-            kinds,
-            lefts,
-            rights,
-            widths,
-            sizes,
-            padded,
-            classes,
-            count,
-            node,
-        ),
+        table::as_sum(kinds, lefts, rights, groups, count, node),
         sides,
     )
 }
@@ -181,29 +115,16 @@ pub extern "C" fn qv_type_as_product(
     kinds: &[u8],
     lefts: &[u16],
     rights: &[u16],
-    widths: &[u64],
-    sizes: &[u64],
-    padded: &[u8],
-    classes: &[u16],
+    groups: &[u8],
     count: usize,
     node: usize,
     sides: &mut [u64],
 ) -> u64
-    ensures { λ r. ⌜ r ≡ code (roomy sidesList (now (sides .entry)) (typeAsProduct (table (now (kinds .entry)) (now (lefts .entry)) (now (rights .entry)) (now (widths .entry)) (now (sizes .entry)) (now (padded .entry)) (now (classes .entry)) count) node)) ⌝ }
-    ensures { λ _. ⌜ now (sides .exit) ≡ storedAll sidesList (roomy sidesList (now (sides .entry)) (typeAsProduct (table (now (kinds .entry)) (now (lefts .entry)) (now (rights .entry)) (now (widths .entry)) (now (sizes .entry)) (now (padded .entry)) (now (classes .entry)) count) node)) (now (sides .entry)) ⌝ }
+    ensures { λ r. ⌜ r ≡ code (roomy sidesList (now (sides .entry)) (typeAsProduct (table (now (kinds .entry)) (now (lefts .entry)) (now (rights .entry)) (now (groups .entry)) count) node)) ⌝ }
+    ensures { λ _. ⌜ now (sides .exit) ≡ storedAll sidesList (roomy sidesList (now (sides .entry)) (typeAsProduct (table (now (kinds .entry)) (now (lefts .entry)) (now (rights .entry)) (now (groups .entry)) count) node)) (now (sides .entry)) ⌝ }
 {
     tell_sides(
-        table::as_product(
-            kinds,
-            lefts,
-            rights,
-            widths,
-            sizes,
-            padded,
-            classes,
-            count,
-            node,
-        ),
+        table::as_product(kinds, lefts, rights, groups, count, node),
         sides,
     )
 }
@@ -214,31 +135,17 @@ pub extern "C" fn qv_pad_left(
     kinds: &[u8],
     lefts: &[u16],
     rights: &[u16],
-    widths: &[u64],
-    sizes: &[u64],
-    padded: &[u8],
-    classes: &[u16],
+    groups: &[u8],
     count: usize,
     a: usize,
     b: usize,
     padding: &mut u64,
 ) -> u64
-    ensures { λ r. ⌜ r ≡ code (padLeftCall (table (now (kinds .entry)) (now (lefts .entry)) (now (rights .entry)) (now (widths .entry)) (now (sizes .entry)) (now (padded .entry)) (now (classes .entry)) count) a b) ⌝ }
-    ensures { λ _. ⌜ now (padding .exit) ≡ stored (padLeftCall (table (now (kinds .entry)) (now (lefts .entry)) (now (rights .entry)) (now (widths .entry)) (now (sizes .entry)) (now (padded .entry)) (now (classes .entry)) count) a b) (now (padding .entry)) ⌝ }
+    ensures { λ r. ⌜ r ≡ code (padLeftCall (table (now (kinds .entry)) (now (lefts .entry)) (now (rights .entry)) (now (groups .entry)) count) a b) ⌝ }
+    ensures { λ _. ⌜ now (padding .exit) ≡ stored (padLeftCall (table (now (kinds .entry)) (now (lefts .entry)) (now (rights .entry)) (now (groups .entry)) count) a b) (now (padding .entry)) ⌝ }
 {
     tell_count(
-        table::pad_left(
-            kinds,
-            lefts,
-            rights,
-            widths,
-            sizes,
-            padded,
-            classes,
-            count,
-            a,
-            b,
-        ),
+        table::pad_left(kinds, lefts, rights, groups, count, a, b),
         padding,
     )
 }
@@ -249,31 +156,17 @@ pub extern "C" fn qv_pad_right(
     kinds: &[u8],
     lefts: &[u16],
     rights: &[u16],
-    widths: &[u64],
-    sizes: &[u64],
-    padded: &[u8],
-    classes: &[u16],
+    groups: &[u8],
     count: usize,
     a: usize,
     b: usize,
     padding: &mut u64,
 ) -> u64
-    ensures { λ r. ⌜ r ≡ code (padRightCall (table (now (kinds .entry)) (now (lefts .entry)) (now (rights .entry)) (now (widths .entry)) (now (sizes .entry)) (now (padded .entry)) (now (classes .entry)) count) a b) ⌝ }
-    ensures { λ _. ⌜ now (padding .exit) ≡ stored (padRightCall (table (now (kinds .entry)) (now (lefts .entry)) (now (rights .entry)) (now (widths .entry)) (now (sizes .entry)) (now (padded .entry)) (now (classes .entry)) count) a b) (now (padding .entry)) ⌝ }
+    ensures { λ r. ⌜ r ≡ code (padRightCall (table (now (kinds .entry)) (now (lefts .entry)) (now (rights .entry)) (now (groups .entry)) count) a b) ⌝ }
+    ensures { λ _. ⌜ now (padding .exit) ≡ stored (padRightCall (table (now (kinds .entry)) (now (lefts .entry)) (now (rights .entry)) (now (groups .entry)) count) a b) (now (padding .entry)) ⌝ }
 {
     tell_count(
-        table::pad_right(
-            kinds,
-            lefts,
-            rights,
-            widths,
-            sizes,
-            padded,
-            classes,
-            count,
-            a,
-            b,
-        ),
+        table::pad_right(kinds, lefts, rights, groups, count, a, b),
         padding,
     )
 }

@@ -11,34 +11,19 @@ pub extern "C" fn qv_u1(
     kinds: &[u8],
     lefts: &[u16],
     rights: &[u16],
-    widths: &[u64],
-    sizes: &[u64],
-    padded: &[u8],
-    classes: &[u16],
+    groups: &[u8],
     count: usize,
     number: u64,
     result: usize,
     width: &mut u64,
     out: &mut [u8],
 ) -> u64
-    ensures { λ r. ⌜ r ≡ code (numberCall (table (now (kinds .entry)) (now (lefts .entry)) (now (rights .entry)) (now (widths .entry)) (now (sizes .entry)) (now (padded .entry)) (now (classes .entry)) count) 0 number result (now (out .entry))) ⌝ }
-    ensures { λ _. ⌜ now (width .exit) ≡ stored (numberCall (table (now (kinds .entry)) (now (lefts .entry)) (now (rights .entry)) (now (widths .entry)) (now (sizes .entry)) (now (padded .entry)) (now (classes .entry)) count) 0 number result (now (out .entry))) (now (width .entry)) ⌝ }
-    ensures { λ _. ⌜ now (out .exit) ≡ numberOut (table (now (kinds .entry)) (now (lefts .entry)) (now (rights .entry)) (now (widths .entry)) (now (sizes .entry)) (now (padded .entry)) (now (classes .entry)) count) 0 number result (now (out .entry)) ⌝ }
+    ensures { λ r. ⌜ r ≡ code (numberCall (table (now (kinds .entry)) (now (lefts .entry)) (now (rights .entry)) (now (groups .entry)) count) 0 number result (now (out .entry))) ⌝ }
+    ensures { λ _. ⌜ now (width .exit) ≡ stored (numberCall (table (now (kinds .entry)) (now (lefts .entry)) (now (rights .entry)) (now (groups .entry)) count) 0 number result (now (out .entry))) (now (width .entry)) ⌝ }
+    ensures { λ _. ⌜ now (out .exit) ≡ numberOut (table (now (kinds .entry)) (now (lefts .entry)) (now (rights .entry)) (now (groups .entry)) count) 0 number result (now (out .entry)) ⌝ }
 {
     tell_count(
-        words::u1(
-            kinds,
-            lefts,
-            rights,
-            widths,
-            sizes,
-            padded,
-            classes,
-            count,
-            number,
-            result,
-            out,
-        ),
+        words::u1(kinds, lefts, rights, groups, count, number, result, out),
         width,
     )
 }
@@ -49,34 +34,19 @@ pub extern "C" fn qv_u2(
     kinds: &[u8],
     lefts: &[u16],
     rights: &[u16],
-    widths: &[u64],
-    sizes: &[u64],
-    padded: &[u8],
-    classes: &[u16],
+    groups: &[u8],
     count: usize,
     number: u64,
     result: usize,
     width: &mut u64,
     out: &mut [u8],
 ) -> u64
-    ensures { λ r. ⌜ r ≡ code (numberCall (table (now (kinds .entry)) (now (lefts .entry)) (now (rights .entry)) (now (widths .entry)) (now (sizes .entry)) (now (padded .entry)) (now (classes .entry)) count) 1 number result (now (out .entry))) ⌝ }
-    ensures { λ _. ⌜ now (width .exit) ≡ stored (numberCall (table (now (kinds .entry)) (now (lefts .entry)) (now (rights .entry)) (now (widths .entry)) (now (sizes .entry)) (now (padded .entry)) (now (classes .entry)) count) 1 number result (now (out .entry))) (now (width .entry)) ⌝ }
-    ensures { λ _. ⌜ now (out .exit) ≡ numberOut (table (now (kinds .entry)) (now (lefts .entry)) (now (rights .entry)) (now (widths .entry)) (now (sizes .entry)) (now (padded .entry)) (now (classes .entry)) count) 1 number result (now (out .entry)) ⌝ }
+    ensures { λ r. ⌜ r ≡ code (numberCall (table (now (kinds .entry)) (now (lefts .entry)) (now (rights .entry)) (now (groups .entry)) count) 1 number result (now (out .entry))) ⌝ }
+    ensures { λ _. ⌜ now (width .exit) ≡ stored (numberCall (table (now (kinds .entry)) (now (lefts .entry)) (now (rights .entry)) (now (groups .entry)) count) 1 number result (now (out .entry))) (now (width .entry)) ⌝ }
+    ensures { λ _. ⌜ now (out .exit) ≡ numberOut (table (now (kinds .entry)) (now (lefts .entry)) (now (rights .entry)) (now (groups .entry)) count) 1 number result (now (out .entry)) ⌝ }
 {
     tell_count(
-        words::u2(
-            kinds,
-            lefts,
-            rights,
-            widths,
-            sizes,
-            padded,
-            classes,
-            count,
-            number,
-            result,
-            out,
-        ),
+        words::u2(kinds, lefts, rights, groups, count, number, result, out),
         width,
     )
 }
@@ -87,34 +57,19 @@ pub extern "C" fn qv_u4(
     kinds: &[u8],
     lefts: &[u16],
     rights: &[u16],
-    widths: &[u64],
-    sizes: &[u64],
-    padded: &[u8],
-    classes: &[u16],
+    groups: &[u8],
     count: usize,
     number: u64,
     result: usize,
     width: &mut u64,
     out: &mut [u8],
 ) -> u64
-    ensures { λ r. ⌜ r ≡ code (numberCall (table (now (kinds .entry)) (now (lefts .entry)) (now (rights .entry)) (now (widths .entry)) (now (sizes .entry)) (now (padded .entry)) (now (classes .entry)) count) 2 number result (now (out .entry))) ⌝ }
-    ensures { λ _. ⌜ now (width .exit) ≡ stored (numberCall (table (now (kinds .entry)) (now (lefts .entry)) (now (rights .entry)) (now (widths .entry)) (now (sizes .entry)) (now (padded .entry)) (now (classes .entry)) count) 2 number result (now (out .entry))) (now (width .entry)) ⌝ }
-    ensures { λ _. ⌜ now (out .exit) ≡ numberOut (table (now (kinds .entry)) (now (lefts .entry)) (now (rights .entry)) (now (widths .entry)) (now (sizes .entry)) (now (padded .entry)) (now (classes .entry)) count) 2 number result (now (out .entry)) ⌝ }
+    ensures { λ r. ⌜ r ≡ code (numberCall (table (now (kinds .entry)) (now (lefts .entry)) (now (rights .entry)) (now (groups .entry)) count) 2 number result (now (out .entry))) ⌝ }
+    ensures { λ _. ⌜ now (width .exit) ≡ stored (numberCall (table (now (kinds .entry)) (now (lefts .entry)) (now (rights .entry)) (now (groups .entry)) count) 2 number result (now (out .entry))) (now (width .entry)) ⌝ }
+    ensures { λ _. ⌜ now (out .exit) ≡ numberOut (table (now (kinds .entry)) (now (lefts .entry)) (now (rights .entry)) (now (groups .entry)) count) 2 number result (now (out .entry)) ⌝ }
 {
     tell_count(
-        words::u4(
-            kinds,
-            lefts,
-            rights,
-            widths,
-            sizes,
-            padded,
-            classes,
-            count,
-            number,
-            result,
-            out,
-        ),
+        words::u4(kinds, lefts, rights, groups, count, number, result, out),
         width,
     )
 }

@@ -13,33 +13,18 @@ pub extern "C" fn qv_as_left(
     kinds: &[u8],
     lefts: &[u16],
     rights: &[u16],
-    widths: &[u64],
-    sizes: &[u64],
-    padded: &[u8],
-    classes: &[u16],
+    groups: &[u8],
     count: usize,
     bytes: &[u8],
     offset: usize,
     node: usize,
     view: &mut [u64],
 ) -> u64
-    ensures { λ r. ⌜ r ≡ code (roomy spotList (now (view .entry)) (asLeft (table (now (kinds .entry)) (now (lefts .entry)) (now (rights .entry)) (now (widths .entry)) (now (sizes .entry)) (now (padded .entry)) (now (classes .entry)) count) (record-of (now (bytes .entry)) offset node))) ⌝ }
-    ensures { λ _. ⌜ now (view .exit) ≡ storedAll spotList (roomy spotList (now (view .entry)) (asLeft (table (now (kinds .entry)) (now (lefts .entry)) (now (rights .entry)) (now (widths .entry)) (now (sizes .entry)) (now (padded .entry)) (now (classes .entry)) count) (record-of (now (bytes .entry)) offset node))) (now (view .entry)) ⌝ }
+    ensures { λ r. ⌜ r ≡ code (roomy spotList (now (view .entry)) (asLeft (table (now (kinds .entry)) (now (lefts .entry)) (now (rights .entry)) (now (groups .entry)) count) (record-of (now (bytes .entry)) offset node))) ⌝ }
+    ensures { λ _. ⌜ now (view .exit) ≡ storedAll spotList (roomy spotList (now (view .entry)) (asLeft (table (now (kinds .entry)) (now (lefts .entry)) (now (rights .entry)) (now (groups .entry)) count) (record-of (now (bytes .entry)) offset node))) (now (view .entry)) ⌝ }
 {
     tell_view(
-        value::as_left(
-            kinds,
-            lefts,
-            rights,
-            widths,
-            sizes,
-            padded,
-            classes,
-            count,
-            bytes,
-            offset,
-            node,
-        ),
+        value::as_left(kinds, lefts, rights, groups, count, bytes, offset, node),
         view,
     )
 }
@@ -50,33 +35,18 @@ pub extern "C" fn qv_as_right(
     kinds: &[u8],
     lefts: &[u16],
     rights: &[u16],
-    widths: &[u64],
-    sizes: &[u64],
-    padded: &[u8],
-    classes: &[u16],
+    groups: &[u8],
     count: usize,
     bytes: &[u8],
     offset: usize,
     node: usize,
     view: &mut [u64],
 ) -> u64
-    ensures { λ r. ⌜ r ≡ code (roomy spotList (now (view .entry)) (asRight (table (now (kinds .entry)) (now (lefts .entry)) (now (rights .entry)) (now (widths .entry)) (now (sizes .entry)) (now (padded .entry)) (now (classes .entry)) count) (record-of (now (bytes .entry)) offset node))) ⌝ }
-    ensures { λ _. ⌜ now (view .exit) ≡ storedAll spotList (roomy spotList (now (view .entry)) (asRight (table (now (kinds .entry)) (now (lefts .entry)) (now (rights .entry)) (now (widths .entry)) (now (sizes .entry)) (now (padded .entry)) (now (classes .entry)) count) (record-of (now (bytes .entry)) offset node))) (now (view .entry)) ⌝ }
+    ensures { λ r. ⌜ r ≡ code (roomy spotList (now (view .entry)) (asRight (table (now (kinds .entry)) (now (lefts .entry)) (now (rights .entry)) (now (groups .entry)) count) (record-of (now (bytes .entry)) offset node))) ⌝ }
+    ensures { λ _. ⌜ now (view .exit) ≡ storedAll spotList (roomy spotList (now (view .entry)) (asRight (table (now (kinds .entry)) (now (lefts .entry)) (now (rights .entry)) (now (groups .entry)) count) (record-of (now (bytes .entry)) offset node))) (now (view .entry)) ⌝ }
 {
     tell_view(
-        value::as_right(
-            kinds,
-            lefts,
-            rights,
-            widths,
-            sizes,
-            padded,
-            classes,
-            count,
-            bytes,
-            offset,
-            node,
-        ),
+        value::as_right(kinds, lefts, rights, groups, count, bytes, offset, node),
         view,
     )
 }
@@ -87,33 +57,18 @@ pub extern "C" fn qv_as_product(
     kinds: &[u8],
     lefts: &[u16],
     rights: &[u16],
-    widths: &[u64],
-    sizes: &[u64],
-    padded: &[u8],
-    classes: &[u16],
+    groups: &[u8],
     count: usize,
     bytes: &[u8],
     offset: usize,
     node: usize,
     views: &mut [u64],
 ) -> u64
-    ensures { λ r. ⌜ r ≡ code (roomy spotsList (now (views .entry)) (asProduct (table (now (kinds .entry)) (now (lefts .entry)) (now (rights .entry)) (now (widths .entry)) (now (sizes .entry)) (now (padded .entry)) (now (classes .entry)) count) (record-of (now (bytes .entry)) offset node))) ⌝ }
-    ensures { λ _. ⌜ now (views .exit) ≡ storedAll spotsList (roomy spotsList (now (views .entry)) (asProduct (table (now (kinds .entry)) (now (lefts .entry)) (now (rights .entry)) (now (widths .entry)) (now (sizes .entry)) (now (padded .entry)) (now (classes .entry)) count) (record-of (now (bytes .entry)) offset node))) (now (views .entry)) ⌝ }
+    ensures { λ r. ⌜ r ≡ code (roomy spotsList (now (views .entry)) (asProduct (table (now (kinds .entry)) (now (lefts .entry)) (now (rights .entry)) (now (groups .entry)) count) (record-of (now (bytes .entry)) offset node))) ⌝ }
+    ensures { λ _. ⌜ now (views .exit) ≡ storedAll spotsList (roomy spotsList (now (views .entry)) (asProduct (table (now (kinds .entry)) (now (lefts .entry)) (now (rights .entry)) (now (groups .entry)) count) (record-of (now (bytes .entry)) offset node))) (now (views .entry)) ⌝ }
 {
     tell_views(
-        value::as_product(
-            kinds,
-            lefts,
-            rights,
-            widths,
-            sizes,
-            padded,
-            classes,
-            count,
-            bytes,
-            offset,
-            node,
-        ),
+        value::as_product(kinds, lefts, rights, groups, count, bytes, offset, node),
         views,
     )
 }

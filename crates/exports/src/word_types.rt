@@ -12,31 +12,15 @@ pub extern "C" fn qv_as_word(
     kinds: &[u8],
     lefts: &[u16],
     rights: &[u16],
-    widths: &[u64],
-    sizes: &[u64],
-    padded: &[u8],
-    classes: &[u16],
+    groups: &[u8],
     count: usize,
     node: usize,
     n: &mut u64,
 ) -> u64
-    ensures { λ r. ⌜ r ≡ code (asWordCall (table (now (kinds .entry)) (now (lefts .entry)) (now (rights .entry)) (now (widths .entry)) (now (sizes .entry)) (now (padded .entry)) (now (classes .entry)) count) node) ⌝ }
-    ensures { λ _. ⌜ now (n .exit) ≡ stored (asWordCall (table (now (kinds .entry)) (now (lefts .entry)) (now (rights .entry)) (now (widths .entry)) (now (sizes .entry)) (now (padded .entry)) (now (classes .entry)) count) node) (now (n .entry)) ⌝ }
+    ensures { λ r. ⌜ r ≡ code (asWordCall (table (now (kinds .entry)) (now (lefts .entry)) (now (rights .entry)) (now (groups .entry)) count) node) ⌝ }
+    ensures { λ _. ⌜ now (n .exit) ≡ stored (asWordCall (table (now (kinds .entry)) (now (lefts .entry)) (now (rights .entry)) (now (groups .entry)) count) node) (now (n .entry)) ⌝ }
 {
-    tell_count(
-        table::as_word(
-            kinds,
-            lefts,
-            rights,
-            widths,
-            sizes,
-            padded,
-            classes,
-            count,
-            node,
-        ),
-        n,
-    )
+    tell_count(table::as_word(kinds, lefts, rights, groups, count, node), n)
 }
 
 // Accepted: the width of word type n.
@@ -63,31 +47,17 @@ pub extern "C" fn qv_is_buffer8(
     kinds: &[u8],
     lefts: &[u16],
     rights: &[u16],
-    widths: &[u64],
-    sizes: &[u64],
-    padded: &[u8],
-    classes: &[u16],
+    groups: &[u8],
     count: usize,
     node: usize,
     n: usize,
     answer: &mut u64,
 ) -> u64
-    ensures { λ r. ⌜ r ≡ code (isBuffer8 (table (now (kinds .entry)) (now (lefts .entry)) (now (rights .entry)) (now (widths .entry)) (now (sizes .entry)) (now (padded .entry)) (now (classes .entry)) count) node n) ⌝ }
-    ensures { λ _. ⌜ now (answer .exit) ≡ storedFlag (isBuffer8 (table (now (kinds .entry)) (now (lefts .entry)) (now (rights .entry)) (now (widths .entry)) (now (sizes .entry)) (now (padded .entry)) (now (classes .entry)) count) node n) (now (answer .entry)) ⌝ }
+    ensures { λ r. ⌜ r ≡ code (isBuffer8 (table (now (kinds .entry)) (now (lefts .entry)) (now (rights .entry)) (now (groups .entry)) count) node n) ⌝ }
+    ensures { λ _. ⌜ now (answer .exit) ≡ storedFlag (isBuffer8 (table (now (kinds .entry)) (now (lefts .entry)) (now (rights .entry)) (now (groups .entry)) count) node n) (now (answer .entry)) ⌝ }
 {
     tell_flag(
-        table::is_buffer8(
-            kinds,
-            lefts,
-            rights,
-            widths,
-            sizes,
-            padded,
-            classes,
-            count,
-            node,
-            n,
-        ),
+        table::is_buffer8(kinds, lefts, rights, groups, count, node, n),
         answer,
     )
 }
@@ -98,29 +68,16 @@ pub extern "C" fn qv_is_ctx8(
     kinds: &[u8],
     lefts: &[u16],
     rights: &[u16],
-    widths: &[u64],
-    sizes: &[u64],
-    padded: &[u8],
-    classes: &[u16],
+    groups: &[u8],
     count: usize,
     node: usize,
     answer: &mut u64,
 ) -> u64
-    ensures { λ r. ⌜ r ≡ code (isCtx8 (table (now (kinds .entry)) (now (lefts .entry)) (now (rights .entry)) (now (widths .entry)) (now (sizes .entry)) (now (padded .entry)) (now (classes .entry)) count) node) ⌝ }
-    ensures { λ _. ⌜ now (answer .exit) ≡ storedFlag (isCtx8 (table (now (kinds .entry)) (now (lefts .entry)) (now (rights .entry)) (now (widths .entry)) (now (sizes .entry)) (now (padded .entry)) (now (classes .entry)) count) node) (now (answer .entry)) ⌝ }
+    ensures { λ r. ⌜ r ≡ code (isCtx8 (table (now (kinds .entry)) (now (lefts .entry)) (now (rights .entry)) (now (groups .entry)) count) node) ⌝ }
+    ensures { λ _. ⌜ now (answer .exit) ≡ storedFlag (isCtx8 (table (now (kinds .entry)) (now (lefts .entry)) (now (rights .entry)) (now (groups .entry)) count) node) (now (answer .entry)) ⌝ }
 {
     tell_flag(
-        table::is_ctx8(
-            kinds,
-            lefts,
-            rights,
-            widths,
-            sizes,
-            padded,
-            classes,
-            count,
-            node,
-        ),
+        table::is_ctx8(kinds, lefts, rights, groups, count, node),
         answer,
     )
 }

@@ -7,8 +7,9 @@
 --   left-reach … right-told     what is known of its sides
 --   classing                    finding the class of a node
 --   unit-told node-told         the facts of a unit, and of a sum or a product
+--   more-reach                  a smaller count
 -- Assumes nothing.
-use Prim.Native.Nat.{ℕ, zero, suc, _+_, _≤_, _<_}
+use Prim.Native.Nat.{ℕ, _+_, _*_, _≤_, _<_}
 use mathlib.Core.Path.{_≡_, refl, ap, sym, _∙_, subst}
 use mathlib.Core.Bool.{true}
 use mathlib.Core.Logic.{_⊎_, inl, inr, ⊎-elim}
@@ -18,12 +19,13 @@ use lib.ListN.{length, getD}
 use lib.Dec.{eqb}
 use borrow.Author.Tests.{eqb-true}
 use Rattle.meaning.specs.Types.{Ty, width, size, padded}
-use Rattle.meaning.specs.Tables.{Columns, Facts, kind, left, right, tyAt, classOf, digit, entryRight, factsRight}
+use Rattle.meaning.specs.Groups.{groupSize}
+use Rattle.meaning.specs.Tables.{Columns, factsIn, kind, left, right, classOf, digit, entryRight, factsRight}
 use Rattle.meaning.proofs.Tests.{and-left, and-right}
 use Rattle.meaning.proofs.Trees.{RightTo, class-le}
 use Rattle.facts.specs.Sides.{widthBy, sizeBy, paddedBy}
 use Rattle.facts.specs.Chains.{slot, slotAt, Last, InSlot, Keyed}
-use Rattle.facts.specs.Known.{FactsReach, FullReach, Seeking, Classing, Ready, SideTold, Told}
+use Rattle.facts.specs.Known.{FullReach, Seeking, Classing, Ready, SideTold, Told}
 use Rattle.facts.specs.declared.Side.{Side}
 use Rattle.facts.specs.declared.Found.{Found}
 use Rattle.facts.proofs.Entries.{above-unit, sides-earlier, sides-unit}
@@ -32,7 +34,7 @@ use Rattle.facts.proofs.Classes.{first-unit, unit-tree, unit-class, old
 use Rattle.facts.proofs.Linking.{last-falls, last-found, slot-below}
 use Rattle.facts.proofs.Judging.{entries-to, told-class}
 
-module _ (c : Columns) (classes links : List ℕ) (start k a b n : ℕ) (h : Classing c classes links start k a b n) where
+module _ (c : Columns) (groups links : List ℕ) (start k a b n : ℕ) (h : Classing c groups links start k a b n) where
   right-to : RightTo c n
   right-to = record { right-at = h .right-to }
 
@@ -43,7 +45,7 @@ module _ (c : Columns) (classes links : List ℕ) (start k a b n : ℕ) (h : Cla
   starts-below : start < n
   starts-below = last-falls (h .starts) not-first
 
-  pub seeking : Seeking c classes links start (slot k a b)
+  pub seeking : Seeking c groups links start (slot k a b)
   seeking =
       let s = starts-below in
       record {
@@ -53,7 +55,7 @@ module _ (c : Columns) (classes links : List ℕ) (start k a b n : ℕ) (h : Cla
               lefts-reach = let r = h .reach .lefts-reach in omega arith;
               rights-reach = let r = h .reach .rights-reach in omega arith;
             };
-        classes-reach = let r = h .classes-reach in omega arith;
+        groups-reach = let r = h .groups-reach in omega arith;
         all-links = h .all-links;
         few = let r = h .few-nodes in omega arith;
         entries = λ j l. h .right-to j (omega arith);
@@ -122,7 +124,7 @@ unit-told c n r e =
       slot-told = sym (unit-slot c n r e);
     }
 
-module _ (c : Columns) (f : Facts) (heads links : List ℕ) (n : ℕ) (ready : Ready c f heads links n) where
+module _ (c : Columns) (groups heads links : List ℕ) (n : ℕ) (ready : Ready c groups heads links n) where
   pub ready-right : RightTo c n
   ready-right = entries-to c n (ready .known .entries) (ready .entry)
 
@@ -135,31 +137,21 @@ module _ (c : Columns) (f : Facts) (heads links : List ℕ) (n : ℕ) (ready : R
     earlier : (left c n < n) × (right c n < n)
     earlier = sides-earlier c n (ready .entry) ne
 
-    -- The columns of facts reach an earlier node.
-    side-reach : (k : ℕ) → k < n → FactsReach f (k + 1)
-    side-reach k l =
-        let r = ready .reach .facts-reach in
-        record {
-          widths-reach = let w = r .widths-reach in omega arith;
-          sizes-reach = let w = r .sizes-reach in omega arith;
-          paddeds-reach = let w = r .paddeds-reach in omega arith;
-          classes-reach = let w = r .classes-reach in omega arith;
-        }
+    -- An earlier node has a group.
+    pub left-reach : groupSize * (left c n + 1) ≤ length groups
+    left-reach = let r = ready .reach .groups-reach in let e = earlier in omega arith
 
-    pub left-reach : FactsReach f (left c n + 1)
-    left-reach = side-reach (left c n) (earlier .0)
+    pub right-reach : groupSize * (right c n + 1) ≤ length groups
+    right-reach = let r = ready .reach .groups-reach in let e = earlier in omega arith
 
-    pub right-reach : FactsReach f (right c n + 1)
-    right-reach = side-reach (right c n) (earlier .1)
-
-    pub left-told : factsRight c f (left c n) ≡ true
+    pub left-told : factsRight c (factsIn groups) (left c n) ≡ true
     left-told = ready .known .told (left c n) (earlier .0)
 
-    pub right-told : factsRight c f (right c n) ≡ true
+    pub right-told : factsRight c (factsIn groups) (right c n) ≡ true
     right-told = ready .known .told (right c n) (earlier .1)
 
     pub classing : (a b start : ℕ) → a ≡ classOf c (left c n) → b ≡ classOf c (right c n) → start ≡ getD heads (slot (kind c n) a b) 0
-        → Classing c (f .classes) links start (kind c n) a b n
+        → Classing c groups links start (kind c n) a b n
     classing a b start p q s =
         let r = ready .reach in
         record {
@@ -171,9 +163,9 @@ module _ (c : Columns) (f : Facts) (heads links : List ℕ) (n : ℕ) (ready : R
                 lefts-reach = let w = r .entries-reach .lefts-reach in omega arith;
                 rights-reach = let w = r .entries-reach .rights-reach in omega arith;
               };
-          classes-reach = let w = r .facts-reach .classes-reach in omega arith;
+          groups-reach = let w = r .groups-reach in omega arith;
           all-links = ready .chained .all-links;
-          classes-right = λ j l. told-class c f j (ready .known .told j l);
+          classes-right = λ j l. told-class c (factsIn groups) j (ready .known .told j l);
           goes-on = ready .chained .goes-on;
           starts =
               subst (λ (x : ℕ). Last (InSlot c (slot (kind c n) a b)) n x) (sym s)
@@ -209,9 +201,9 @@ module _ (c : Columns) (f : Facts) (heads links : List ℕ) (n : ℕ) (ready : R
           slot-told = t ∙ rw (xc, yc);
         }
 
--- Columns that reach a count reach a smaller one.
-pub more-reach : (c : Columns) (f : Facts) (n m : ℕ) → FullReach c f n → m ≤ n → FullReach c f m
-more-reach c f n m h l =
+-- What reaches a count reaches a smaller one.
+pub more-reach : (c : Columns) (groups : List ℕ) (n m : ℕ) → FullReach c groups n → m ≤ n → FullReach c groups m
+more-reach c groups n m h l =
     record {
       few = let w = h .few in omega arith;
       entries-reach =
@@ -220,11 +212,5 @@ more-reach c f n m h l =
             lefts-reach = let w = h .entries-reach .lefts-reach in omega arith;
             rights-reach = let w = h .entries-reach .rights-reach in omega arith;
           };
-      facts-reach =
-          record {
-            widths-reach = let w = h .facts-reach .widths-reach in omega arith;
-            sizes-reach = let w = h .facts-reach .sizes-reach in omega arith;
-            paddeds-reach = let w = h .facts-reach .paddeds-reach in omega arith;
-            classes-reach = let w = h .facts-reach .classes-reach in omega arith;
-          };
+      groups-reach = let w = h .groups-reach in omega arith;
     }

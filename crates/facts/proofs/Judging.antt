@@ -2,13 +2,13 @@
 --
 --   bad-entry-here no-bad-entry     the first wrong entry: the first that the pass met; none
 --   bad-here no-bad                 the same of the first node with anything wrong
---   told-width …                    what right facts say, column by column
+--   told-width …                    what right facts say, one by one
 --   entries-to known-more           right entries below a node and at it; one more node that is right
---   agrees-right                    the facts handed in agree with those found
+--   alike alike-right               the facts handed in are those found, exactly if they are right
 --   entry-fails facts-fail          what puts a node at fault
 -- Assumes nothing.
-use Prim.Native.Nat.{ℕ, zero, suc, _+_, _≤_, _<_}
-use mathlib.Core.Path.{_≡_, refl, ap, sym, _∙_, subst}
+use Prim.Native.Nat.{ℕ, _+_, _≤_, _<_}
+use mathlib.Core.Path.{_≡_, ap, sym, subst}
 use mathlib.Core.Bool.{Bool, true, false, not, _&&_}
 use mathlib.Core.Logic.{⊎-elim}
 use native.Mathlib.Nat.{eq-or-lt-of-le}
@@ -60,7 +60,7 @@ each-of-four w s p q h =
     let ws = and-left (w && s) p wsp in
     (and-left w s ws, and-right w s ws, and-right (w && s) p wsp, and-right (w && s && p) q h)
 
--- What right facts say, column by column.
+-- What right facts say, one by one.
 module _ (c : Columns) (f : Facts) (k : ℕ) (h : factsRight c f k ≡ true) where
   all-told : (eqb (getD (f .widths) k 0) (width (tyAt c k)) ≡ true)
       × (eqb (getD (f .sizes) k 0) (size (tyAt c k)) ≡ true)
@@ -105,12 +105,18 @@ known-more c f n known e t =
         let g : k ≤ n = omega arith in
         ⊎-elim (λ (q : k ≡ n). subst P (sym q) here) (λ (h : k < n). before k h) (eq-or-lt-of-le g)
 
--- The facts handed in agree with those found exactly if they are right.
-pub agrees-right : (c : Columns) (f : Facts) (n : ℕ) (r : Found) → Told c n r
-    → (eqb (getD (f .widths) n 0) (r .width) && eqb (getD (f .sizes) n 0) (r .size) && eqb (getD (f .paddeds) n 0) (r .padded) && eqb (getD (f .classes) n 0) (r .class))
-    ≡ factsRight c f n
+-- The facts handed in for a node are those found.
+abbrev pub alike : Facts → ℕ → Found → Bool
+alike f n r =
+    eqb (getD (f .widths) n 0) (r .width)
+    && eqb (getD (f .sizes) n 0) (r .size)
+    && eqb (getD (f .paddeds) n 0) (r .padded)
+    && eqb (getD (f .classes) n 0) (r .class)
+
+-- They are exactly if they are right.
+pub alike-right : (c : Columns) (f : Facts) (n : ℕ) (r : Found) → Told c n r → alike f n r ≡ factsRight c f n
 unfolding factsRight
-agrees-right c f n r t =
+alike-right c f n r t =
     let w = t .width-told in
     let s = t .size-told in
     let p = t .padded-told in

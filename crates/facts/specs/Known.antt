@@ -1,22 +1,22 @@
 -- What the functions of this crate ask and answer.
 --
---   Reach FactsReach FullReach  columns that have an entry for each node
+--   Reach FullReach             columns that reach a count; columns and groups that do
 --   Known                       all is right below a node
 --   Seeking                     what a walk along a chain relies on
 --   Classing                    what finding the class of a node relies on
 --   SideTold                    the facts of a side
 --   Ready                       what finding the facts of a node relies on
 --   Told                        the facts of a node, and the slot of its key
---   Fillable Filled             what filling in the facts relies on, and leaves
-use Prim.Native.Nat.{ℕ, _+_, _<_, _≤_}
+--   Fillable                    what filling in the facts relies on
+use Prim.Native.Nat.{ℕ, _+_, _*_, _<_, _≤_}
 use mathlib.Core.Path.{_≡_}
 use mathlib.Core.Bool.{true}
 use mathlib.Core.List.{List}
 use mathlib.Core.Logic.{_⊎_}
 use lib.ListN.{length, getD}
 use Rattle.meaning.specs.Types.{width, size, padded}
-use Rattle.meaning.specs.Tables.{Columns, Facts, kind, left, right, tyAt, classOf, digit, entryRight, factsRight}
-use Rattle.meaning.specs.TypeCalls.{factsWritten}
+use Rattle.meaning.specs.Groups.{groupSize}
+use Rattle.meaning.specs.Tables.{Columns, Facts, factsIn, kind, left, right, tyAt, classOf, digit, entryRight, factsRight}
 use Rattle.facts.specs.Chains.{slot, slotAt, Last, InSlot, Chained}
 use Rattle.facts.specs.declared.Side.{Side}
 use Rattle.facts.specs.declared.Found.{Found}
@@ -27,18 +27,11 @@ pub record Reach (c : Columns) (n : ℕ) : Type 0 where
   pub lefts-reach : n ≤ length (c .lefts)
   pub rights-reach : n ≤ length (c .rights)
 
--- The columns of the facts reach the count.
-pub record FactsReach (f : Facts) (n : ℕ) : Type 0 where
-  pub widths-reach : n ≤ length (f .widths)
-  pub sizes-reach : n ≤ length (f .sizes)
-  pub paddeds-reach : n ≤ length (f .paddeds)
-  pub classes-reach : n ≤ length (f .classes)
-
--- The columns of entries and facts reach a count of at most 1,024.
-pub record FullReach (c : Columns) (f : Facts) (n : ℕ) : Type 0 where
+-- The columns of the entries and the groups of the facts reach a count of at most 1,024.
+pub record FullReach (c : Columns) (groups : List ℕ) (n : ℕ) : Type 0 where
   pub few : n ≤ 1024
   pub entries-reach : Reach c n
-  pub facts-reach : FactsReach f n
+  pub groups-reach : groupSize * n ≤ length groups
 
 -- The entries and the facts of the nodes below n are right.
 pub record Known (c : Columns) (f : Facts) (n : ℕ) : Type 0 where
@@ -46,24 +39,24 @@ pub record Known (c : Columns) (f : Facts) (n : ℕ) : Type 0 where
   pub told : (k : ℕ) → k < n → factsRight c f k ≡ true
 
 -- A walk that starts at a node of a slot, or at 0: entries, classes and links are right up to there.
-pub record Seeking (c : Columns) (classes links : List ℕ) (start h : ℕ) : Type 0 where
+pub record Seeking (c : Columns) (groups links : List ℕ) (start h : ℕ) : Type 0 where
   pub reach : Reach c (start + 1)
-  pub classes-reach : start < length classes
+  pub groups-reach : groupSize * (start + 1) ≤ length groups
   pub all-links : length links ≡ 1024
   pub few : start < 1024
   pub entries : (k : ℕ) → k ≤ start → entryRight c k ≡ true
-  pub classes-right : (k : ℕ) → k ≤ start → getD classes k 0 ≡ classOf c k
+  pub classes-right : (k : ℕ) → k ≤ start → getD (factsIn groups .classes) k 0 ≡ classOf c k
   pub goes-on : (m : ℕ) → m ≤ start → classOf c m ≡ m → Last (InSlot c (slotAt c m)) m (getD links m 0)
   pub begins : (start ≡ 0) ⊎ InSlot c h start
 
 -- A node n, no unit, whose key is (k, a, b), and the start of the key's slot: what is known below n.
-pub record Classing (c : Columns) (classes links : List ℕ) (start k a b n : ℕ) : Type 0 where
+pub record Classing (c : Columns) (groups links : List ℕ) (start k a b n : ℕ) : Type 0 where
   pub right-to : (j : ℕ) → j ≤ n → entryRight c j ≡ true
   pub few-nodes : n ≤ 1024
   pub reach : Reach c n
-  pub classes-reach : n ≤ length classes
+  pub groups-reach : groupSize * n ≤ length groups
   pub all-links : length links ≡ 1024
-  pub classes-right : (j : ℕ) → j < n → getD classes j 0 ≡ classOf c j
+  pub classes-right : (j : ℕ) → j < n → getD (factsIn groups .classes) j 0 ≡ classOf c j
   pub goes-on : (m : ℕ) → m < n → classOf c m ≡ m → Last (InSlot c (slotAt c m)) m (getD links m 0)
   pub starts : Last (InSlot c (slot k a b)) n start
   pub no-unit : kind c n ≡ 0 → ⊥
@@ -72,9 +65,9 @@ pub record Classing (c : Columns) (classes links : List ℕ) (start k a b n : �
   pub right-is : classOf c (right c n) ≡ b
 
 -- All is right below n, and so is the entry of n.
-pub record Ready (c : Columns) (f : Facts) (heads links : List ℕ) (n : ℕ) : Type 0 where
-  pub reach : FullReach c f (n + 1)
-  pub known : Known c f n
+pub record Ready (c : Columns) (groups heads links : List ℕ) (n : ℕ) : Type 0 where
+  pub reach : FullReach c groups (n + 1)
+  pub known : Known c (factsIn groups) n
   pub entry : entryRight c n ≡ true
   pub chained : Chained c heads links n
 
@@ -93,14 +86,7 @@ pub record Told (c : Columns) (n : ℕ) (r : Found) : Type 0 where
   pub class-told : r .class ≡ classOf c n
   pub slot-told : r .slot ≡ slotAt c n
 
--- A table whose entries are right, and whose columns of facts reach the count.
-pub record Fillable (c : Columns) (f : Facts) (n : ℕ) : Type 0 where
-  pub reach : FullReach c f n
+-- A table whose entries are right, and groups that reach its count.
+pub record Fillable (c : Columns) (groups : List ℕ) (n : ℕ) : Type 0 where
+  pub reach : FullReach c groups n
   pub entries : (k : ℕ) → k < n → entryRight c k ≡ true
-
--- The facts of the first n nodes are written over the columns as they stood before.
-pub record Filled (c : Columns) (n : ℕ) (before after : Facts) : Type 0 where
-  pub widths-filled : after .widths ≡ factsWritten c n before .widths
-  pub sizes-filled : after .sizes ≡ factsWritten c n before .sizes
-  pub paddeds-filled : after .paddeds ≡ factsWritten c n before .paddeds
-  pub classes-filled : after .classes ≡ factsWritten c n before .classes

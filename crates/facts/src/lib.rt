@@ -1,15 +1,17 @@
-// The facts of a lent table: the first wrong entry, the first node with anything wrong, and the columns of facts filled in.
+// The facts of a lent table: the first wrong entry, the first node with anything wrong, and the groups of facts filled in.
 // Each node is judged by the facts of earlier ones, so one pass does; its class is found along chains of nodes whose keys (kind, class of
 // the left side, class of the right side) fall into one slot of a hash, and keys that all collide only make it slow.
 ghost use mathlib.Core.Path.{_≡_};
-ghost use mathlib.Core.Bool.{true, _&&_};
-ghost use Prim.Native.Nat.{_+_, _<_, max};
-ghost use lib.Dec.{eqb};
+ghost use mathlib.Core.Bool.{true};
+ghost use Prim.Native.Nat.{_+_, _*_, _<_, _≤_, max};
+ghost use lib.ListN.{length};
 ghost use Rattle.meaning.specs.Types as types;
-ghost use Rattle.meaning.specs.Tables.{Columns, columns, facts, table, classOf, sidesRight, firstBadEntry, firstBad, factsRight};
+ghost use Rattle.meaning.specs.Groups.{groupSize};
+ghost use Rattle.meaning.specs.Tables.{Columns, columns, factsIn, table, classOf, sidesRight, firstBadEntry, firstBad, factsRight};
+ghost use Rattle.meaning.specs.TypeCalls.{groupsWritten};
 ghost use Rattle.facts.specs.Sides.{widthBy, sizeBy, paddedBy};
 ghost use Rattle.facts.specs.Chains.{slot, slotAt, Last, Keyed, Chained};
-ghost use Rattle.facts.specs.Known.{Reach, FactsReach, FullReach, SideTold, Seeking, Classing, Ready, Told, Fillable, Filled};
+ghost use Rattle.facts.specs.Known.{Reach, FullReach, SideTold, Seeking, Classing, Ready, Told, Fillable};
 
 // The facts of a node, and the slot of its key.
 struct Found {
@@ -130,21 +132,21 @@ fn find(
     kinds: &[u8],
     lefts: &[u16],
     rights: &[u16],
-    classes: &[u16],
+    groups: &[u8],
     links: &[u16; 1024],
     start: usize,
     kind: u8,
     a: u16,
     b: u16,
 ) -> usize
-    requires { ⌜ Seeking (columns (now kinds) (now lefts) (now rights)) (now classes) (now links) start (slot kind a b) ⌝ }
+    requires { ⌜ Seeking (columns (now kinds) (now lefts) (now rights)) (now groups) (now links) start (slot kind a b) ⌝ }
     ensures { λ r. ⌜ Last (Keyed (columns (now (kinds .entry)) (now (lefts .entry)) (now (rights .entry))) kind a b) (start + 1) r ⌝ }
 {
     let mut m = start;
     while m != 0 {
         if kinds[m] == kind {
-            if classes[lefts[m] as usize] == a {
-                if classes[rights[m] as usize] == b {
+            if groups::class_at(groups, lefts[m] as usize) == a {
+                if groups::class_at(groups, rights[m] as usize) == b {
                     return m;
                 }
             }
@@ -159,7 +161,7 @@ fn class_at(
     kinds: &[u8],
     lefts: &[u16],
     rights: &[u16],
-    classes: &[u16],
+    groups: &[u8],
     links: &[u16; 1024],
     start: usize,
     kind: u8,
@@ -167,26 +169,26 @@ fn class_at(
     b: u16,
     n: usize,
 ) -> usize
-    requires { ⌜ Classing (columns (now kinds) (now lefts) (now rights)) (now classes) (now links) start kind a b n ⌝ }
+    requires { ⌜ Classing (columns (now kinds) (now lefts) (now rights)) (now groups) (now links) start kind a b n ⌝ }
     ensures { λ r. ⌜ r ≡ classOf (columns (now (kinds .entry)) (now (lefts .entry)) (now (rights .entry))) n ⌝ }
 {
-    let m = find(kinds, lefts, rights, classes, links, start, kind, a, b);
+    let m = find(kinds, lefts, rights, groups, links, start, kind, a, b);
     if m == 0 {
         return n;
     }
     m
 }
 
-// The facts of an earlier node, as the columns have them.
-fn side_at(widths: &[u64], sizes: &[u64], padded: &[u8], classes: &[u16], k: usize) -> Side
-    requires { ⌜ FactsReach (facts (now widths) (now sizes) (now padded) (now classes)) (k + 1) ⌝ }
-    ensures { λ r. ⌜ ((c : Columns) → factsRight c (facts (now (widths .entry)) (now (sizes .entry)) (now (padded .entry)) (now (classes .entry))) k ≡ true → SideTold c k r) ⌝ }
+// The facts of an earlier node, as its group has them.
+fn side_at(groups: &[u8], k: usize) -> Side
+    requires { ⌜ groupSize * (k + 1) ≤ length (now groups) ⌝ }
+    ensures { λ r. ⌜ ((c : Columns) → factsRight c (factsIn (now (groups .entry))) k ≡ true → SideTold c k r) ⌝ }
 {
     Side {
-        width: widths[k],
-        size: sizes[k],
-        padded: padded[k],
-        class: classes[k],
+        width: groups::width_at(groups, k),
+        size: groups::size_at(groups, k),
+        padded: groups::padded_at(groups, k),
+        class: groups::class_at(groups, k),
     }
 }
 
@@ -195,15 +197,12 @@ fn facts_at(
     kinds: &[u8],
     lefts: &[u16],
     rights: &[u16],
-    widths: &[u64],
-    sizes: &[u64],
-    padded: &[u8],
-    classes: &[u16],
+    groups: &[u8],
     heads: &[u16; 1024],
     links: &[u16; 1024],
     n: usize,
 ) -> Found
-    requires { ⌜ Ready (columns (now kinds) (now lefts) (now rights)) (facts (now widths) (now sizes) (now padded) (now classes)) (now heads) (now links) n ⌝ }
+    requires { ⌜ Ready (columns (now kinds) (now lefts) (now rights)) (now groups) (now heads) (now links) n ⌝ }
     ensures { λ r. ⌜ Told (columns (now (kinds .entry)) (now (lefts .entry)) (now (rights .entry))) n r ⌝ }
 {
     let kind = kinds[n];
@@ -216,8 +215,8 @@ fn facts_at(
             slot: 0,
         };
     }
-    let x = side_at(widths, sizes, padded, classes, lefts[n] as usize);
-    let y = side_at(widths, sizes, padded, classes, rights[n] as usize);
+    let x = side_at(groups, lefts[n] as usize);
+    let y = side_at(groups, rights[n] as usize);
     let slot = slot_of(kind, x.class, y.class);
     let start = heads[slot] as usize;
     Found {
@@ -228,7 +227,7 @@ fn facts_at(
             kinds,
             lefts,
             rights,
-            classes,
+            groups,
             links,
             start,
             kind,
@@ -251,35 +250,27 @@ fn chain(heads: &mut [u16; 1024], links: &mut [u16; 1024], slot: usize, class: u
     }
 }
 
-// The facts handed in are those found.
-fn agrees(f: Found, width: u64, size: u64, padded: u8, class: u16) -> bool
-    ensures { λ r. ⌜ r ≡ (eqb width (f .width) && eqb size (f .size) && eqb padded (f .padded) && eqb class (f .class)) ⌝ }
+// The facts of node n, as its group has them, are those found.
+fn agrees(groups: &[u8], n: usize, f: Found) -> bool
+    requires { ⌜ groupSize * (n + 1) ≤ length (now groups) ⌝ }
+    ensures { λ r. ⌜ ((c : Columns) → Told c n f → r ≡ factsRight c (factsIn (now (groups .entry))) n) ⌝ }
 {
-    if width != f.width {
+    if groups::width_at(groups, n) != f.width {
         return false;
     }
-    if size != f.size {
+    if groups::size_at(groups, n) != f.size {
         return false;
     }
-    if padded != f.padded {
+    if groups::padded_at(groups, n) != f.padded {
         return false;
     }
-    class as usize == f.class
+    groups::class_at(groups, n) as usize == f.class
 }
 
 // The first node whose entry or any of whose facts is wrong, or the count.
-pub fn first_bad(
-    kinds: &[u8],
-    lefts: &[u16],
-    rights: &[u16],
-    widths: &[u64],
-    sizes: &[u64],
-    padded: &[u8],
-    classes: &[u16],
-    count: usize,
-) -> usize
-    requires { ⌜ FullReach (columns (now kinds) (now lefts) (now rights)) (facts (now widths) (now sizes) (now padded) (now classes)) count ⌝ }
-    ensures { λ r. ⌜ r ≡ firstBad (table (now (kinds .entry)) (now (lefts .entry)) (now (rights .entry)) (now (widths .entry)) (now (sizes .entry)) (now (padded .entry)) (now (classes .entry)) count) ⌝ }
+pub fn first_bad(kinds: &[u8], lefts: &[u16], rights: &[u16], groups: &[u8], count: usize) -> usize
+    requires { ⌜ FullReach (columns (now kinds) (now lefts) (now rights)) (now groups) count ⌝ }
+    ensures { λ r. ⌜ r ≡ firstBad (table (now (kinds .entry)) (now (lefts .entry)) (now (rights .entry)) (now (groups .entry)) count) ⌝ }
 {
     let mut heads = [0u16; 1024];
     let mut links = [0u16; 1024];
@@ -288,19 +279,8 @@ pub fn first_bad(
         if !entry_right(kinds[n], n, lefts[n], rights[n]) {
             return n;
         }
-        let f = facts_at(
-            kinds,
-            lefts,
-            rights,
-            widths,
-            sizes,
-            padded,
-            classes,
-            &heads,
-            &links,
-            n,
-        );
-        if !agrees(f, widths[n], sizes[n], padded[n], classes[n]) {
+        let f = facts_at(kinds, lefts, rights, groups, &heads, &links, n);
+        if !agrees(groups, n, f) {
             return n;
         }
         chain(&mut heads, &mut links, f.slot, f.class, n);
@@ -309,40 +289,17 @@ pub fn first_bad(
     count
 }
 
-// Fills in the facts of a table whose entries are right.
-pub fn fill(
-    kinds: &[u8],
-    lefts: &[u16],
-    rights: &[u16],
-    count: usize,
-    widths: &mut [u64],
-    sizes: &mut [u64],
-    padded: &mut [u8],
-    classes: &mut [u16],
-)
-    requires { ⌜ Fillable (columns (now kinds) (now lefts) (now rights)) (facts (now widths) (now sizes) (now padded) (now classes)) count ⌝ }
-    ensures { λ _. ⌜ Filled (columns (now (kinds .entry)) (now (lefts .entry)) (now (rights .entry))) count (facts (now (widths .entry)) (now (sizes .entry)) (now (padded .entry)) (now (classes .entry))) (facts (now (widths .exit)) (now (sizes .exit)) (now (padded .exit)) (now (classes .exit))) ⌝ }
+// Fills in the groups of a table whose entries are right.
+pub fn fill(kinds: &[u8], lefts: &[u16], rights: &[u16], count: usize, groups: &mut [u8])
+    requires { ⌜ Fillable (columns (now kinds) (now lefts) (now rights)) (now groups) count ⌝ }
+    ensures { λ _. ⌜ now (groups .exit) ≡ groupsWritten (columns (now (kinds .entry)) (now (lefts .entry)) (now (rights .entry))) count (now (groups .entry)) ⌝ }
 {
     let mut heads = [0u16; 1024];
     let mut links = [0u16; 1024];
     let mut n = 0;
     while n < count {
-        let f = facts_at(
-            kinds,
-            lefts,
-            rights,
-            widths,
-            sizes,
-            padded,
-            classes,
-            &heads,
-            &links,
-            n,
-        );
-        widths[n] = f.width;
-        sizes[n] = f.size;
-        padded[n] = f.padded;
-        classes[n] = f.class as u16;
+        let f = facts_at(kinds, lefts, rights, groups, &heads, &links, n);
+        groups::put_facts(groups, n, f.width, f.size, f.padded, f.class as u16);
         chain(&mut heads, &mut links, f.slot, f.class, n);
         n += 1;
     }

@@ -14,7 +14,7 @@ use mathlib.Core.List.{List, [], _∷_}
 use lib.ListN.{length}
 use lib.Dec.{ltb}
 use borrow.Author.Tests.{lt-ltb, le-ltb}
-use Rattle.meaning.specs.Tables.{Columns, Facts, countRight, columnsReach, factsReach}
+use Rattle.meaning.specs.Tables.{Columns, countRight, columnsReach, groupsReach}
 use Rattle.meaning.specs.Files.{Reading, faulty, found, number, andThen, ended, Entry, entryFrom, entriesFrom, tableIn}
 use Rattle.meaning.specs.Ladder.{Answer, refused, accepted, rung, ladder}
 use Rattle.meaning.specs.TypeCalls.{fileRung, entriesIn, readTable}
@@ -82,21 +82,21 @@ pub accepted-found : (r : Reading (List Entry)) (n : ℕ) → fileVerdict r ≡ 
 accepted-found (faulty p) n e = absurd (accepted-refused n 1 p (sym e))
 accepted-found (found es at) n e = refl
 
-pub read-refused : (file : List ℕ) (c : Columns) (f : Facts) (p : ℕ) → fileVerdict (tableIn file) ≡ refused 1 p → readTable file c f ≡ refused 1 p
+pub read-refused : (file : List ℕ) (c : Columns) (g : List ℕ) (p : ℕ) → fileVerdict (tableIn file) ≡ refused 1 p → readTable file c g ≡ refused 1 p
 unfolding ladder
-read-refused file c f p e = by-cases (tableIn file) e
+read-refused file c g p e = by-cases (tableIn file) e
   where
     short : Reading (List Entry) → Bool
-    short r = not (columnsReach c (length (entriesIn r)) && factsReach f (length (entriesIn r)))
+    short r = not (columnsReach c (length (entriesIn r)) && groupsReach g (length (entriesIn r)))
 
     by-cases : (r : Reading (List Entry)) → fileVerdict r ≡ refused 1 p
         → ladder (fileRung r ∷ rung (short r) 9 0 ∷ []) (length (entriesIn r)) ≡ refused 1 p
     by-cases (faulty q) h = h
     by-cases (found es at) h = absurd (accepted-refused (length es) 1 p h)
 
-pub read-accepted : (file : List ℕ) (c : Columns) (f : Facts) (n : ℕ) → fileVerdict (tableIn file) ≡ accepted n
-    → readTable file c f ≡ ladder (rung (not (columnsReach c n && factsReach f n)) 9 0 ∷ []) n
+pub read-accepted : (file : List ℕ) (c : Columns) (g : List ℕ) (n : ℕ) → fileVerdict (tableIn file) ≡ accepted n
+    → readTable file c g ≡ ladder (rung (not (columnsReach c n && groupsReach g n)) 9 0 ∷ []) n
 unfolding ladder
-read-accepted file c f n e =
+read-accepted file c g n e =
     rw (accepted-found (tableIn file) n e)
-    (ap (λ k. ladder (rung (not (columnsReach c k && factsReach f k)) 9 0 ∷ []) k) (accepted-count (tableIn file) n e))
+    (ap (λ k. ladder (rung (not (columnsReach c k && groupsReach g k)) 9 0 ∷ []) k) (accepted-count (tableIn file) n e))

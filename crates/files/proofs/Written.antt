@@ -4,21 +4,21 @@
 --                               an entry, and whether it is right
 --   tree-written                the type of a node
 --   class-written               its class
---   facts-written               the facts of all nodes
+--   groups-written              the groups of all nodes
 -- Each asks that the entries are right, which those of a file are (`Right.entries-right`). Assumes nothing.
-use Prim.Native.Nat.{ℕ, zero, suc, _+_, _≤_, _<_}
+use Prim.Native.Nat.{ℕ, zero, suc, _*_, _≤_, _<_}
 use mathlib.Core.Path.{_≡_, refl, ap, sym, _∙_}
 use mathlib.Core.Bool.{true}
-use mathlib.Core.List.{List, _∷_, _++_, map}
+use mathlib.Core.List.{List, _++_, map}
 use native.Mathlib.Omega.{arith}
 use lib.Dec.{eqb}
 use lib.ListN.{length, getD, drop, length-map, List·getD-append}
 use borrow.Author.Tests.{eqb-true}
-use Rattle.meaning.specs.Choice.{from}
 use Rattle.meaning.specs.Types.{width, size, padded}
-use Rattle.meaning.specs.Tables.{Columns, Facts, kind, left, right, node, tyTo, tyAt, classOf, digit, sidesRight, entryRight}
+use Rattle.meaning.specs.Groups.{group, groupSize}
+use Rattle.meaning.specs.Tables.{Columns, kind, left, right, node, tyTo, tyAt, classOf, digit, sidesRight, entryRight}
 use Rattle.meaning.specs.Files.{Entry, columnsOf}
-use Rattle.meaning.specs.TypeCalls.{entriesWritten, factsWritten, filled}
+use Rattle.meaning.specs.TypeCalls.{groupOf, groupsOf, groupsWritten, entriesWritten}
 use Rattle.meaning.proofs.Tests.{and-left, and-right}
 use Rattle.meaning.proofs.Trees.{sides-below, class-le, class-tree, class-least, class-unique}
 
@@ -69,20 +69,15 @@ module _ (es : List Entry) (c : Columns) (right-at : (k : ℕ) → k < length es
       (tree-written m (omega arith) ∙ class-tree (columnsOf es) k ∙ sym (tree-written k h))
       (λ j l e. class-least (columnsOf es) k j l (sym (tree-written j (omega arith)) ∙ e ∙ tree-written k h))
 
-  -- A fact of the nodes from n on.
-  facts-from : (f g : ℕ → ℕ) → ((k : ℕ) → k < length es → f k ≡ g k) → (n m : ℕ) → n + m ≤ length es → map f (from n m) ≡ map g (from n m)
-  unfolding from
-  facts-from f g h n zero l = refl
-  facts-from f g h n (suc m) l = λ i. h n (omega arith) i ∷ facts-from f g h (suc n) m (omega arith) i
+  group-written : (k : ℕ) → k < length es → groupOf (entriesWritten es c) k ≡ groupOf (columnsOf es) k
+  unfolding groupOf
+  group-written k h =
+      λ i. group (width (tree-written k h i)) (size (tree-written k h i)) (digit (padded (tree-written k h i))) (class-written k h i)
 
-  fact : (f g : ℕ → ℕ) → ((k : ℕ) → k < length es → f k ≡ g k) → (old : List ℕ) → filled f (length es) old ≡ filled g (length es) old
-  fact f g h old = ap (λ s. s ++ drop (length es) old) (facts-from f g h 0 (length es) (omega arith))
+  groups-to : (n : ℕ) → n ≤ length es → groupsOf (entriesWritten es c) n ≡ groupsOf (columnsOf es) n
+  unfolding groupsOf
+  groups-to zero l = refl
+  groups-to (suc n) l = λ i. groups-to n (omega arith) i ++ group-written n (omega arith) i
 
-  pub facts-written : (f : Facts) → factsWritten (entriesWritten es c) (length es) f ≡ factsWritten (columnsOf es) (length es) f
-  facts-written f =
-      let w = fact (λ k. width (tyAt (entriesWritten es c) k)) (λ k. width (tyAt (columnsOf es) k)) (λ k h. ap width (tree-written k h)) (f .widths) in
-      let s = fact (λ k. size (tyAt (entriesWritten es c) k)) (λ k. size (tyAt (columnsOf es) k)) (λ k h. ap size (tree-written k h)) (f .sizes) in
-      let p = fact (λ k. digit (padded (tyAt (entriesWritten es c) k))) (λ k. digit (padded (tyAt (columnsOf es) k)))
-      (λ k h. ap (λ t. digit (padded t)) (tree-written k h)) (f .paddeds) in
-      let q = fact (classOf (entriesWritten es c)) (classOf (columnsOf es)) class-written (f .classes) in
-      λ i. record { widths = w i; sizes = s i; paddeds = p i; classes = q i }
+  pub groups-written : (old : List ℕ) → groupsWritten (entriesWritten es c) (length es) old ≡ groupsWritten (columnsOf es) (length es) old
+  groups-written old = ap (λ s. s ++ drop (groupSize * length es) old) (groups-to (length es) (omega arith))

@@ -1,6 +1,6 @@
 -- How the first rungs answer.
 --
---   misshaped                   a count or a column that is wrong refuses with 1 at 0
+--   misshaped                   a count, a column or groups that are wrong refuse with 1 at 0
 --   faulty-node faultless       else the first node at fault refuses with 1 there; where there is none, it accepts
 --   any-first any-second any-third  a test of three, tried one after the other
 --   any-agrees any-none         tests that agree on three; a test that none of three passes

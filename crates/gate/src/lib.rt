@@ -17,17 +17,8 @@ ghost use Rattle.meaning.specs.CodecCalls.{readRungs};
 ghost use Rattle.answers.specs.Verdicts.{doneOf};
 
 // 1: the table is sound.
-pub fn sound(
-    kinds: &[u8],
-    lefts: &[u16],
-    rights: &[u16],
-    widths: &[u64],
-    sizes: &[u64],
-    padded: &[u8],
-    classes: &[u16],
-    count: usize,
-) -> Done
-    ensures { λ r. ⌜ doneOf r ≡ checkTable (table (now (kinds .entry)) (now (lefts .entry)) (now (rights .entry)) (now (widths .entry)) (now (sizes .entry)) (now (padded .entry)) (now (classes .entry)) count) ⌝ }
+pub fn sound(kinds: &[u8], lefts: &[u16], rights: &[u16], groups: &[u8], count: usize) -> Done
+    ensures { λ r. ⌜ doneOf r ≡ checkTable (table (now (kinds .entry)) (now (lefts .entry)) (now (rights .entry)) (now (groups .entry)) count) ⌝ }
 {
     if count == 0 {
         return Done::Refused(Refusal {
@@ -59,31 +50,13 @@ pub fn sound(
             place: 0,
         });
     }
-    if widths.len() < count {
+    if groups.len() < groups::GROUP_BYTES * count {
         return Done::Refused(Refusal {
             number: 1,
             place: 0,
         });
     }
-    if sizes.len() < count {
-        return Done::Refused(Refusal {
-            number: 1,
-            place: 0,
-        });
-    }
-    if padded.len() < count {
-        return Done::Refused(Refusal {
-            number: 1,
-            place: 0,
-        });
-    }
-    if classes.len() < count {
-        return Done::Refused(Refusal {
-            number: 1,
-            place: 0,
-        });
-    }
-    let bad = facts::first_bad(kinds, lefts, rights, widths, sizes, padded, classes, count);
+    let bad = facts::first_bad(kinds, lefts, rights, groups, count);
     if bad < count {
         return Done::Refused(Refusal {
             number: 1,
@@ -124,18 +97,15 @@ pub fn nodes(
     kinds: &[u8],
     lefts: &[u16],
     rights: &[u16],
-    widths: &[u64],
-    sizes: &[u64],
-    padded: &[u8],
-    classes: &[u16],
+    groups: &[u8],
     count: usize,
     a: usize,
     b: usize,
     c: usize,
 ) -> Done
-    ensures { λ r. ⌜ doneOf r ≡ ladder (named (table (now (kinds .entry)) (now (lefts .entry)) (now (rights .entry)) (now (widths .entry)) (now (sizes .entry)) (now (padded .entry)) (now (classes .entry)) count) (a ∷ b ∷ c ∷ [])) (tt {0}) ⌝ }
+    ensures { λ r. ⌜ doneOf r ≡ ladder (named (table (now (kinds .entry)) (now (lefts .entry)) (now (rights .entry)) (now (groups .entry)) count) (a ∷ b ∷ c ∷ [])) (tt {0}) ⌝ }
 {
-    let judged = sound(kinds, lefts, rights, widths, sizes, padded, classes, count);
+    let judged = sound(kinds, lefts, rights, groups, count);
     if let Done::Refused(r) = judged {
         return Done::Refused(r);
     }
@@ -145,13 +115,23 @@ pub fn nodes(
             place: 0,
         });
     }
-    if above(524288, widths[a], widths[b], widths[c]) {
+    if above(
+        524288,
+        groups::width_at(groups, a),
+        groups::width_at(groups, b),
+        groups::width_at(groups, c),
+    ) {
         return Done::Refused(Refusal {
             number: 3,
             place: 0,
         });
     }
-    if above(2097152, sizes[a], sizes[b], sizes[c]) {
+    if above(
+        2097152,
+        groups::size_at(groups, a),
+        groups::size_at(groups, b),
+        groups::size_at(groups, c),
+    ) {
         return Done::Refused(Refusal {
             number: 4,
             place: 0,
@@ -181,10 +161,7 @@ pub fn two_to(
     kinds: &[u8],
     lefts: &[u16],
     rights: &[u16],
-    widths: &[u64],
-    sizes: &[u64],
-    padded: &[u8],
-    classes: &[u16],
+    groups: &[u8],
     count: usize,
     a_bytes: &[u8],
     a_offset: usize,
@@ -194,31 +171,19 @@ pub fn two_to(
     b_node: usize,
     c: usize,
 ) -> Done
-    ensures { λ r. ⌜ doneOf r ≡ ladder (handed (table (now (kinds .entry)) (now (lefts .entry)) (now (rights .entry)) (now (widths .entry)) (now (sizes .entry)) (now (padded .entry)) (now (classes .entry)) count) (record-of (now («a_bytes» .entry)) «a_offset» «a_node» ∷ record-of (now («b_bytes» .entry)) «b_offset» «b_node» ∷ []) (c ∷ [])) (tt {0}) ⌝ }
+    ensures { λ r. ⌜ doneOf r ≡ ladder (handed (table (now (kinds .entry)) (now (lefts .entry)) (now (rights .entry)) (now (groups .entry)) count) (record-of (now («a_bytes» .entry)) «a_offset» «a_node» ∷ record-of (now («b_bytes» .entry)) «b_offset» «b_node» ∷ []) (c ∷ [])) (tt {0}) ⌝ }
 {
-    let judged = nodes(
-        kinds,
-        lefts,
-        rights,
-        widths,
-        sizes,
-        padded,
-        classes,
-        count,
-        a_node,
-        b_node,
-        c,
-    );
+    let judged = nodes(kinds, lefts, rights, groups, count, a_node, b_node, c);
     if let Done::Refused(r) = judged {
         return Done::Refused(r);
     }
-    if past(a_bytes.len(), a_offset, widths[a_node]) {
+    if past(a_bytes.len(), a_offset, groups::width_at(groups, a_node)) {
         return Done::Refused(Refusal {
             number: 5,
             place: 0,
         });
     }
-    if past(b_bytes.len(), b_offset, widths[b_node]) {
+    if past(b_bytes.len(), b_offset, groups::width_at(groups, b_node)) {
         return Done::Refused(Refusal {
             number: 5,
             place: 0,
@@ -232,28 +197,13 @@ pub fn node(
     kinds: &[u8],
     lefts: &[u16],
     rights: &[u16],
-    widths: &[u64],
-    sizes: &[u64],
-    padded: &[u8],
-    classes: &[u16],
+    groups: &[u8],
     count: usize,
     c: usize,
 ) -> Done
-    ensures { λ r. ⌜ doneOf r ≡ ladder (named (table (now (kinds .entry)) (now (lefts .entry)) (now (rights .entry)) (now (widths .entry)) (now (sizes .entry)) (now (padded .entry)) (now (classes .entry)) count) (c ∷ [])) (tt {0}) ⌝ }
+    ensures { λ r. ⌜ doneOf r ≡ ladder (named (table (now (kinds .entry)) (now (lefts .entry)) (now (rights .entry)) (now (groups .entry)) count) (c ∷ [])) (tt {0}) ⌝ }
 {
-    nodes(
-        kinds,
-        lefts,
-        rights,
-        widths,
-        sizes,
-        padded,
-        classes,
-        count,
-        c,
-        c,
-        c,
-    )
+    nodes(kinds, lefts, rights, groups, count, c, c, c)
 }
 
 // 1 to 5, of a call that names a result and is handed no record.
@@ -261,28 +211,13 @@ pub fn result(
     kinds: &[u8],
     lefts: &[u16],
     rights: &[u16],
-    widths: &[u64],
-    sizes: &[u64],
-    padded: &[u8],
-    classes: &[u16],
+    groups: &[u8],
     count: usize,
     c: usize,
 ) -> Done
-    ensures { λ r. ⌜ doneOf r ≡ ladder (handed (table (now (kinds .entry)) (now (lefts .entry)) (now (rights .entry)) (now (widths .entry)) (now (sizes .entry)) (now (padded .entry)) (now (classes .entry)) count) [] (c ∷ [])) (tt {0}) ⌝ }
+    ensures { λ r. ⌜ doneOf r ≡ ladder (handed (table (now (kinds .entry)) (now (lefts .entry)) (now (rights .entry)) (now (groups .entry)) count) [] (c ∷ [])) (tt {0}) ⌝ }
 {
-    nodes(
-        kinds,
-        lefts,
-        rights,
-        widths,
-        sizes,
-        padded,
-        classes,
-        count,
-        c,
-        c,
-        c,
-    )
+    nodes(kinds, lefts, rights, groups, count, c, c, c)
 }
 
 // 1 to 5, of one record.
@@ -290,25 +225,19 @@ pub fn record(
     kinds: &[u8],
     lefts: &[u16],
     rights: &[u16],
-    widths: &[u64],
-    sizes: &[u64],
-    padded: &[u8],
-    classes: &[u16],
+    groups: &[u8],
     count: usize,
     bytes: &[u8],
     offset: usize,
     node: usize,
 ) -> Done
-    ensures { λ r. ⌜ doneOf r ≡ ladder (handed (table (now (kinds .entry)) (now (lefts .entry)) (now (rights .entry)) (now (widths .entry)) (now (sizes .entry)) (now (padded .entry)) (now (classes .entry)) count) (record-of (now (bytes .entry)) offset node ∷ []) []) (tt {0}) ⌝ }
+    ensures { λ r. ⌜ doneOf r ≡ ladder (handed (table (now (kinds .entry)) (now (lefts .entry)) (now (rights .entry)) (now (groups .entry)) count) (record-of (now (bytes .entry)) offset node ∷ []) []) (tt {0}) ⌝ }
 {
     two_to(
         kinds,
         lefts,
         rights,
-        widths,
-        sizes,
-        padded,
-        classes,
+        groups,
         count,
         bytes,
         offset,
@@ -325,26 +254,20 @@ pub fn record_to(
     kinds: &[u8],
     lefts: &[u16],
     rights: &[u16],
-    widths: &[u64],
-    sizes: &[u64],
-    padded: &[u8],
-    classes: &[u16],
+    groups: &[u8],
     count: usize,
     bytes: &[u8],
     offset: usize,
     node: usize,
     c: usize,
 ) -> Done
-    ensures { λ r. ⌜ doneOf r ≡ ladder (handed (table (now (kinds .entry)) (now (lefts .entry)) (now (rights .entry)) (now (widths .entry)) (now (sizes .entry)) (now (padded .entry)) (now (classes .entry)) count) (record-of (now (bytes .entry)) offset node ∷ []) (c ∷ [])) (tt {0}) ⌝ }
+    ensures { λ r. ⌜ doneOf r ≡ ladder (handed (table (now (kinds .entry)) (now (lefts .entry)) (now (rights .entry)) (now (groups .entry)) count) (record-of (now (bytes .entry)) offset node ∷ []) (c ∷ [])) (tt {0}) ⌝ }
 {
     two_to(
         kinds,
         lefts,
         rights,
-        widths,
-        sizes,
-        padded,
-        classes,
+        groups,
         count,
         bytes,
         offset,
@@ -361,10 +284,7 @@ pub fn two(
     kinds: &[u8],
     lefts: &[u16],
     rights: &[u16],
-    widths: &[u64],
-    sizes: &[u64],
-    padded: &[u8],
-    classes: &[u16],
+    groups: &[u8],
     count: usize,
     a_bytes: &[u8],
     a_offset: usize,
@@ -373,16 +293,13 @@ pub fn two(
     b_offset: usize,
     b_node: usize,
 ) -> Done
-    ensures { λ r. ⌜ doneOf r ≡ ladder (handed (table (now (kinds .entry)) (now (lefts .entry)) (now (rights .entry)) (now (widths .entry)) (now (sizes .entry)) (now (padded .entry)) (now (classes .entry)) count) (record-of (now («a_bytes» .entry)) «a_offset» «a_node» ∷ record-of (now («b_bytes» .entry)) «b_offset» «b_node» ∷ []) []) (tt {0}) ⌝ }
+    ensures { λ r. ⌜ doneOf r ≡ ladder (handed (table (now (kinds .entry)) (now (lefts .entry)) (now (rights .entry)) (now (groups .entry)) count) (record-of (now («a_bytes» .entry)) «a_offset» «a_node» ∷ record-of (now («b_bytes» .entry)) «b_offset» «b_node» ∷ []) []) (tt {0}) ⌝ }
 {
     two_to(
         kinds,
         lefts,
         rights,
-        widths,
-        sizes,
-        padded,
-        classes,
+        groups,
         count,
         a_bytes,
         a_offset,
@@ -399,31 +316,16 @@ pub fn stream(
     kinds: &[u8],
     lefts: &[u16],
     rights: &[u16],
-    widths: &[u64],
-    sizes: &[u64],
-    padded: &[u8],
-    classes: &[u16],
+    groups: &[u8],
     count: usize,
     bytes: &[u8],
     length: usize,
     position: usize,
     node: usize,
 ) -> Done
-    ensures { λ r. ⌜ doneOf r ≡ ladder (readRungs (table (now (kinds .entry)) (now (lefts .entry)) (now (rights .entry)) (now (widths .entry)) (now (sizes .entry)) (now (padded .entry)) (now (classes .entry)) count) (stream-of (now (bytes .entry)) length position) node) (tt {0}) ⌝ }
+    ensures { λ r. ⌜ doneOf r ≡ ladder (readRungs (table (now (kinds .entry)) (now (lefts .entry)) (now (rights .entry)) (now (groups .entry)) count) (stream-of (now (bytes .entry)) length position) node) (tt {0}) ⌝ }
 {
-    let judged = nodes(
-        kinds,
-        lefts,
-        rights,
-        widths,
-        sizes,
-        padded,
-        classes,
-        count,
-        node,
-        node,
-        node,
-    );
+    let judged = nodes(kinds, lefts, rights, groups, count, node, node, node);
     if let Done::Refused(r) = judged {
         return Done::Refused(r);
     }

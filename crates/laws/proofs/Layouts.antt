@@ -16,7 +16,8 @@ use native.Mathlib.Omega.{arith}
 use lib.Dec.{ltb}
 use lib.ListN.{getD}
 use Rattle.meaning.specs.Choice.{least}
-use Rattle.meaning.specs.Tables.{Columns, Facts, Table, columns, facts, table, factsIn, groupsTable, entryRight, factsRight, countRight, columnsReach, factsReach, firstBad}
+use Rattle.meaning.specs.Tables.{Columns, Facts, Table, columns, facts, factsIn, table, entryRight, factsRight, countRight, columnsReach, factsReach, firstBad}
+use Rattle.meaning.specs.OldLayout.{columnsTable}
 use Rattle.meaning.specs.Ladder.{Rung, rung, ladder, sound}
 
 -- The facts of a node are the same in both.
@@ -35,10 +36,10 @@ pub record SameFacts (n : ℕ) (f g : Facts) : Type 0 where
 abbrev pub tableWith : Columns → ℕ → Facts → Table
 tableWith c n f = record { columns = c; facts = f; count = n }
 
-pub columns-table : (ks ls rs ws ss ps cs : List ℕ) (n : ℕ) → table ks ls rs ws ss ps cs n ≡ tableWith (columns ks ls rs) n (facts ws ss ps cs)
+pub columns-table : (ks ls rs ws ss ps cs : List ℕ) (n : ℕ) → columnsTable ks ls rs ws ss ps cs n ≡ tableWith (columns ks ls rs) n (facts ws ss ps cs)
 columns-table ks ls rs ws ss ps cs n = refl
 
-pub groups-table : (ks ls rs gs : List ℕ) (n : ℕ) → groupsTable ks ls rs gs n ≡ tableWith (columns ks ls rs) n (factsIn gs)
+pub groups-table : (ks ls rs gs : List ℕ) (n : ℕ) → table ks ls rs gs n ≡ tableWith (columns ks ls rs) n (factsIn gs)
 groups-table ks ls rs gs n = refl
 
 least-agrees : (p q : ℕ → Bool) (n : ℕ) → ((k : ℕ) → k < n → p k ≡ q k) → least p n ≡ least q n

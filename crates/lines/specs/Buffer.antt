@@ -3,11 +3,12 @@
 --   put                         the buffer with a text at an offset; what lies before and after stays
 --   Wrote                       a text was written, and this is the offset after it
 --   Printed                     a text was written at the front, and this is its length
---   Reportable                  room for a whole report, and columns that reach the count
+--   Reportable                  room for a whole report, and a kind and a group for each node
 use Prim.Native.Nat.{ℕ, _+_, _*_, _≤_}
 use mathlib.Core.Path.{_≡_}
 use mathlib.Core.List.{List, _++_}
 use lib.ListN.{length, take, drop}
+use Rattle.meaning.specs.Groups.{groupSize}
 
 -- The buffer with a text at an offset.
 abbrev pub put : List ℕ → ℕ → List ℕ → List ℕ
@@ -23,11 +24,8 @@ pub record Printed (before text after : List ℕ) (count : ℕ) : Type 0 where
   pub counts : count ≡ length text
   pub holds : after ≡ text ++ drop (length text) before
 
--- A report of n nodes takes at most 96 bytes a node and 32 for its first line, and each column has an entry for each node.
-pub record Reportable (out kinds widths sizes paddeds classes : List ℕ) (n : ℕ) : Type 0 where
+-- A report of n nodes takes at most 96 bytes a node and 32 for its first line, and each node has its kind and its group.
+pub record Reportable (out kinds groups : List ℕ) (n : ℕ) : Type 0 where
   pub room : n * 96 + 32 ≤ length out
   pub kinds-reach : n ≤ length kinds
-  pub widths-reach : n ≤ length widths
-  pub sizes-reach : n ≤ length sizes
-  pub paddeds-reach : n ≤ length paddeds
-  pub classes-reach : n ≤ length classes
+  pub groups-reach : groupSize * n ≤ length groups

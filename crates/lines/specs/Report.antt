@@ -6,7 +6,8 @@
 --   headLine nodeLine           the first line, and the line of a node
 --   refusalLine                 the line of a refusal
 --   reportText                  the first line and those of the nodes
---   columnsText tableText       the report of a table as its columns have it, and by its trees
+--   lineIn groupsText           the line of a node and the report of a table, as kinds and groups have them
+--   tableText                   the report of a table by its trees
 --   fileText                    the report of a file
 use Prim.Native.Nat.{ℕ, zero, suc, _+_, _/_, _%_}
 use Prim.Native.Char.{code}
@@ -16,7 +17,7 @@ use mathlib.Core.Bool.{cond}
 use mathlib.Core.List.{List, [], _∷_, _++_}
 use lib.ListN.{length, getD}
 use lib.Dec.{ltb}
-use Rattle.meaning.specs.Tables.{Columns, NodeFacts, factsAt, digit}
+use Rattle.meaning.specs.Tables.{Columns, Facts, factsIn, NodeFacts, factsAt, digit}
 use Rattle.meaning.specs.Files.{Reading, faulty, found, Entry, tableIn, columnsOf}
 
 -- The bytes of a text of plain characters.
@@ -71,10 +72,13 @@ linesTo lineOf (suc n) = linesTo lineOf n ++ lineOf n
 abbrev pub reportText : (ℕ → List ℕ) → ℕ → List ℕ
 reportText lineOf n = headLine n ++ linesTo lineOf n
 
--- The report of a table as its columns have it.
-abbrev pub columnsText : List ℕ → List ℕ → List ℕ → List ℕ → List ℕ → ℕ → List ℕ
-columnsText kinds widths sizes paddeds classes n =
-    reportText (λ k. nodeLine k (getD kinds k 0) (getD widths k 0) (getD sizes k 0) (getD paddeds k 0) (getD classes k 0)) n
+-- The line of a node, as the kinds and the facts have it.
+abbrev pub lineIn : List ℕ → Facts → ℕ → List ℕ
+lineIn kinds f k = nodeLine k (getD kinds k 0) (getD (f .widths) k 0) (getD (f .sizes) k 0) (getD (f .paddeds) k 0) (getD (f .classes) k 0)
+
+-- The report of a table, as its kinds and the groups of its facts have it.
+abbrev pub groupsText : List ℕ → List ℕ → ℕ → List ℕ
+groupsText kinds groups n = reportText (lineIn kinds (factsIn groups)) n
 
 -- The line of a node by what a table says of it.
 abbrev pub factsLine : ℕ → NodeFacts → List ℕ

@@ -4,7 +4,7 @@ ghost use mathlib.Core.Path.{_≡_};
 ghost use Prim.Native.Nat.{_+_, _≤_};
 ghost use mathlib.Core.List.{[], _∷_, _++_};
 ghost use lib.ListN.{length};
-ghost use Rattle.lines.specs.Report.{ascii, decimal, kindWord, headLine, nodeLine, refusalLine, columnsText};
+ghost use Rattle.lines.specs.Report.{ascii, decimal, kindWord, headLine, nodeLine, refusalLine, groupsText};
 ghost use Rattle.lines.specs.Buffer.{Wrote, Printed, Reportable};
 
 // A number in decimal, the leading digits first.
@@ -101,19 +101,11 @@ pub fn refusal_line(out: &mut [u8], number: u8, place: usize) -> usize
 }
 
 // The whole report of a table.
-pub fn report(
-    out: &mut [u8],
-    kinds: &[u8],
-    widths: &[u64],
-    sizes: &[u64],
-    padded: &[u8],
-    classes: &[u16],
-    count: usize,
-) -> usize
-    requires { ⌜ Reportable (now out) (now kinds) (now widths) (now sizes) (now padded) (now classes) count ⌝ }
+pub fn report(out: &mut [u8], kinds: &[u8], groups: &[u8], count: usize) -> usize
+    requires { ⌜ Reportable (now out) (now kinds) (now groups) count ⌝ }
     ensures { λ r.
         ⌜ Printed (now (out .entry))
-        (columnsText (now (kinds .entry)) (now (widths .entry)) (now (sizes .entry)) (now (padded .entry)) (now (classes .entry)) count)
+        (groupsText (now (kinds .entry)) (now (groups .entry)) count)
         (now (out .exit)) r ⌝ }
 {
     let mut at = head_line(out, 0, count);
@@ -124,10 +116,10 @@ pub fn report(
             at,
             k,
             kinds[k],
-            widths[k],
-            sizes[k],
-            padded[k],
-            classes[k] as usize,
+            groups::width_at(groups, k),
+            groups::size_at(groups, k),
+            groups::padded_at(groups, k),
+            groups::class_at(groups, k) as usize,
         );
         k += 1;
     }

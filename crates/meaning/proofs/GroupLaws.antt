@@ -10,6 +10,7 @@
 --   digit-low                   a yes or no is a byte
 --   written-holds               in a buffer with the groups of the first n nodes, the facts of each are those of its tree
 --   written-width written-size written-padded written-class written-right     each of them, and all as one test
+--   sound-group                 each node of a sound table has its group
 -- Assumes nothing.
 use Prim.Native.Nat.{ℕ, zero, suc, _+_, _*_, _^_, _≤_, _<_}
 use mathlib.Core.Path.{_≡_, refl, sym, ap, _∙_, subst}
@@ -25,12 +26,13 @@ use lib.Dec.{eqb}
 use borrow.Author.Tests.{eqb-true, eq-eqb}
 use Rattle.meaning.specs.Types.{width, size, padded}
 use Rattle.meaning.specs.Groups.{low, lowBytes, group, groupSize, factIn}
-use Rattle.meaning.specs.Tables.{Columns, Facts, factsIn, tyAt, classOf, digit, factsRight}
+use Rattle.meaning.specs.Tables.{Columns, Facts, factsIn, table, tyAt, classOf, digit, factsRight}
+use Rattle.meaning.specs.Checked.{Sound}
 use Rattle.meaning.specs.TypeCalls.{groupOf, groupsOf, groupsWritten}
 use Rattle.meaning.proofs.Tests.{and-left, and-right}
 use Rattle.meaning.proofs.Types.{width-top, size-top}
 use Rattle.meaning.proofs.Trees.{class-le}
-use Rattle.meaning.proofs.Groups.{length-lowBytes, low-lowBytes, fact-at}
+use Rattle.meaning.proofs.Groups.{length-lowBytes, low-lowBytes, length-fact, fact-at}
 
 pub length-group : (w z p k : ℕ) → length (group w z p k) ≡ groupSize
 length-group w z p k = simp (length-append, length-lowBytes)
@@ -181,3 +183,6 @@ module _ (c : Columns) (n : ℕ) (old : List ℕ) (k : ℕ) (h : k < n) (few : n
 
   pub written-right : factsRight c (factsIn (groupsWritten c n old)) k ≡ true
   written-right = holds-right c (factsIn (groupsWritten c n old)) k written-holds
+
+pub sound-group : (ks ls rs gs : List ℕ) (n k : ℕ) → Sound (table ks ls rs gs n) → k < n → groupSize * (k + 1) ≤ length gs
+sound-group ks ls rs gs n k s h = let e = length-fact 0 8 gs in let r = s .widths-reach in omega arith

@@ -10,7 +10,7 @@ use mathlib.Core.List.{List}
 use lib.ListN.{length, getD}
 use Rattle.meaning.specs.Tables.{Table, entryRight, factsRight}
 
--- A sound table: its count, the reach of its columns, each entry and each fact are right.
+-- A sound table: its count, the reach of its columns and of its facts, each entry and each fact are right.
 pub record Sound (t : Table) : Type 0 where
   pub some-node : 1 ≤ t .count
   pub few-nodes : t .count ≤ 1024

@@ -76,7 +76,7 @@ recordBits t r = take (bits (typeOf t r)) (drop (r .offset) (bitsOf (r .bytes)))
 unfoldable pub restOf : Stream → List Bool
 restOf s = drop (s .position) (take (s .until) (bitsOf (s .bytes)))
 
--- 1: a bad count or a short column, at 0; then the first node at fault.
+-- 1: a bad count, a short column or too few groups, at 0; then the first node at fault.
 abbrev pub sound : Table → List Rung
 sound t =
     rung (not (countRight (t .count) && columnsReach (t .columns) (t .count) && factsReach (t .facts) (t .count))) 1 0

@@ -16,3 +16,4 @@ pub mod RecordCalls
 pub mod CodecCalls
 pub mod WordCalls
 pub mod CutCalls
+pub mod OldLayout

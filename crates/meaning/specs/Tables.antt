@@ -1,17 +1,17 @@
--- Tables: document 01, "The type table". A table lies in lent columns; its facts lie in columns beside them.
+-- Tables: document 01, "The type table", and document 02, K9. The entries of a table lie in three lent columns; its facts lie in one lent buffer,
+-- a group of bytes for each node.
 --
 --   Columns Facts Table         what a call is handed
---   table                       a table from its columns, facts and count
---   factsIn groupsTable         the facts that groups hold, and a table whose facts lie in groups
+--   factsIn table               the facts that groups hold, and a table from its columns, groups and count
 --   kind left right             the entry of a node
 --   node tyTo tyAt              the type of a node: its tree
 --   classOf                     the smallest node with the same tree
---   digit                       a fact that is yes or no, as the column has it
+--   digit                       a fact that is yes or no, as a number
 --   NodeFacts factsAt           all facts of a node
 --   sidesRight entryRight       an entry is right
 --   factsRight                  the facts handed in are right
 --   countRight                  a count of 1 to 1,024
---   reaches columnsReach factsReach     columns that reach it
+--   reaches columnsReach factsReach     columns and facts that reach it
 --   groupsReach                 groups that reach it
 --   firstBadEntry firstBad      the first node at fault, or the count where there is none
 use Prim.Native.Nat.{ℕ, zero, suc, _*_}
@@ -46,21 +46,17 @@ pub record Table : Type 0 where
 abbrev pub columns : List ℕ → List ℕ → List ℕ → Columns
 columns ks ls rs = record { kinds = ks; lefts = ls; rights = rs }
 
--- Facts from their four columns.
+-- Facts from their four lists.
 abbrev pub facts : List ℕ → List ℕ → List ℕ → List ℕ → Facts
 facts ws ss ps cs = record { widths = ws; sizes = ss; paddeds = ps; classes = cs }
-
--- A table from its seven columns and its count.
-abbrev pub table : List ℕ → List ℕ → List ℕ → List ℕ → List ℕ → List ℕ → List ℕ → ℕ → Table
-table ks ls rs ws ss ps cs n = record { columns = columns ks ls rs; facts = facts ws ss ps cs; count = n }
 
 -- The facts that groups hold: width, size, padded and class, in this order.
 abbrev pub factsIn : List ℕ → Facts
 factsIn gs = facts (factIn 0 8 gs) (factIn 8 8 gs) (factIn 16 1 gs) (factIn 17 2 gs)
 
 -- A table from the columns of its entries, the groups of its facts and its count.
-abbrev pub groupsTable : List ℕ → List ℕ → List ℕ → List ℕ → ℕ → Table
-groupsTable ks ls rs gs n = record { columns = columns ks ls rs; facts = factsIn gs; count = n }
+abbrev pub table : List ℕ → List ℕ → List ℕ → List ℕ → ℕ → Table
+table ks ls rs gs n = record { columns = columns ks ls rs; facts = factsIn gs; count = n }
 
 -- The kind of a node.
 abbrev pub kind : Columns → ℕ → ℕ
@@ -93,7 +89,7 @@ tyAt c n = tyTo (suc n) c n
 unfoldable pub classOf : Columns → ℕ → ℕ
 classOf c n = least (λ m. same (tyAt c m) (tyAt c n)) n
 
--- A yes or no as a column has it.
+-- A yes or no as a number.
 abbrev pub digit : Bool → ℕ
 digit true = 1
 digit false = 0
@@ -152,7 +148,7 @@ reaches n xs = leb n (length xs)
 abbrev pub columnsReach : Columns → ℕ → Bool
 columnsReach c n = reaches n (c .kinds) && reaches n (c .lefts) && reaches n (c .rights)
 
--- The columns of the facts reach the count.
+-- There are facts for each of the nodes.
 abbrev pub factsReach : Facts → ℕ → Bool
 factsReach f n = reaches n (f .widths) && reaches n (f .sizes) && reaches n (f .paddeds) && reaches n (f .classes)
 

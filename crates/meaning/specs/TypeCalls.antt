@@ -1,11 +1,9 @@
--- The calls on tables and types, each with its answer and, where it fills columns, their contents afterwards.
+-- The calls on tables and types, each with its answer and, where it fills lent columns or groups, their contents afterwards.
 --
 --   checkTable                  the check
---   fillFacts fillFactsOut      facts from columns
---   readTable readTableColumns readTableFacts   a table from its file
 --   groupOf groupsOf groupsWritten              the groups of nodes, and a buffer with them written
---   fillGroups fillGroupsOut                    facts from columns, written as groups
---   readGroups readGroupsColumns readGroupsOut  a table from its file, its facts written as groups
+--   fillFacts fillFactsOut      the groups of the facts, from the entries
+--   readTable readTableColumns readTableGroups  a table from its file
 --   asks factsOf sameType isUnitCall isEmptyCall typeAsSum typeAsProduct padLeftCall padRightCall asWordCall
 --   wordWidth bufferWidth isBuffer8 isCtx8      the type-only questions
 use Prim.Native.Nat.{ℕ, zero, suc, _*_, _-_, max}
@@ -13,55 +11,43 @@ use mathlib.Core.Bool.{Bool, true, false, not, _&&_}
 use mathlib.Core.List.{List, [], _∷_, _++_, map}
 use lib.ListN.{length, drop, getD}
 use lib.Dec.{eqb, ltb, leb}
-use Rattle.meaning.specs.Choice.{from}
 use Rattle.meaning.specs.Types.{Ty, same, bits, width, size, padded, isUnit, isSum, isProd}
 use Rattle.meaning.specs.Groups.{group, groupSize}
-use Rattle.meaning.specs.Tables.{Columns, Facts, Table, kind, left, right, tyAt, classOf, digit, NodeFacts, factsAt, countRight, columnsReach, factsReach, groupsReach, firstBadEntry}
+use Rattle.meaning.specs.Tables.{Columns, Table, kind, left, right, tyAt, classOf, digit, NodeFacts, factsAt, countRight, columnsReach, groupsReach, firstBadEntry}
 use Rattle.meaning.specs.Files.{Reading, faulty, found, Entry, tableIn, columnsOf}
 use Rattle.meaning.specs.Words.{wordWidths, asWord, buffer, ctx8}
 use Rattle.meaning.specs.Ladder.{Answer, Rung, rung, ladder, kept, typeAt, sound, present, ranged, shaped}
 
--- The contents of a column with n entries written from the front on; entries past them stay.
-abbrev pub filled : (ℕ → ℕ) → ℕ → List ℕ → List ℕ
-filled f n old = map f (from 0 n) ++ drop n old
+-- The group of a node, by its tree.
+unfoldable pub groupOf : Columns → ℕ → List ℕ
+groupOf c n = group (width (tyAt c n)) (size (tyAt c n)) (digit (padded (tyAt c n))) (classOf c n)
 
--- The facts of the first n nodes, written over four columns.
-abbrev pub factsWritten : Columns → ℕ → Facts → Facts
-factsWritten c n f =
-    record {
-      widths = filled (λ k. width (tyAt c k)) n (f .widths);
-      sizes = filled (λ k. size (tyAt c k)) n (f .sizes);
-      paddeds = filled (λ k. digit (padded (tyAt c k))) n (f .paddeds);
-      classes = filled (classOf c) n (f .classes);
-    }
+-- The groups of the first n nodes.
+unfoldable pub groupsOf : Columns → ℕ → List ℕ
+groupsOf c zero = []
+groupsOf c (suc n) = groupsOf c n ++ groupOf c n
 
--- The facts' columns after a call: as they stood if it was refused.
-abbrev pub factsKept : {A : Type 0} → Answer A → Facts → Facts → Facts
-factsKept a before after =
-    record {
-      widths = kept a (before .widths) (after .widths);
-      sizes = kept a (before .sizes) (after .sizes);
-      paddeds = kept a (before .paddeds) (after .paddeds);
-      classes = kept a (before .classes) (after .classes);
-    }
+-- A buffer after the groups of the first n nodes were written to it; later bytes stay.
+abbrev pub groupsWritten : Columns → ℕ → List ℕ → List ℕ
+groupsWritten c n old = groupsOf c n ++ drop (groupSize * n) old
 
 -- `check_table`: the table is sound.
 abbrev pub checkTable : Table → Answer (Unit {0})
 checkTable t = ladder (sound t) tt
 
--- `fill_facts`: the entries are judged as in a sound table, and the facts' columns must reach the count.
-abbrev pub fillFacts : Columns → ℕ → Facts → Answer (Unit {0})
-fillFacts c n f =
+-- `fill_facts`: the entries are judged as in a sound table, and the buffer must have a group for each node.
+abbrev pub fillFacts : Columns → ℕ → List ℕ → Answer (Unit {0})
+fillFacts c n gs =
     ladder
     (rung (not (countRight n && columnsReach c n)) 1 0
     ∷ rung (ltb (firstBadEntry c n) n) 1 (firstBadEntry c n)
-    ∷ rung (not (factsReach f n)) 9 0
+    ∷ rung (not (groupsReach gs n)) 9 0
     ∷ [])
     tt
 
--- The facts' columns after `fill_facts`.
-abbrev pub fillFactsOut : Columns → ℕ → Facts → Facts
-fillFactsOut c n f = factsKept (fillFacts c n f) f (factsWritten c n f)
+-- The buffer after `fill_facts`.
+abbrev pub fillFactsOut : Columns → ℕ → List ℕ → List ℕ
+fillFactsOut c n gs = kept (fillFacts c n gs) gs (groupsWritten c n gs)
 
 -- A faulty file is an unsound table, and the place is the fault's.
 abbrev pub fileRung : {A : Type 0} → Reading A → Rung
@@ -73,12 +59,13 @@ abbrev pub entriesIn : Reading (List Entry) → List Entry
 entriesIn (faulty p) = []
 entriesIn (found es at) = es
 
--- `read_table`: the whole file is judged first; then every column must reach the count, which is the answer.
-abbrev pub readTable : List ℕ → Columns → Facts → Answer ℕ
-readTable file c f =
+-- `read_table`: the whole file is judged first; then every column must reach the count, which is the answer, and the buffer must have a
+-- group for each node.
+abbrev pub readTable : List ℕ → Columns → List ℕ → Answer ℕ
+readTable file c gs =
     ladder
     (fileRung (tableIn file)
-    ∷ rung (not (columnsReach c (length (entriesIn (tableIn file))) && factsReach f (length (entriesIn (tableIn file))))) 9 0
+    ∷ rung (not (columnsReach c (length (entriesIn (tableIn file))) && groupsReach gs (length (entriesIn (tableIn file))))) 9 0
     ∷ [])
     (length (entriesIn (tableIn file)))
 
@@ -101,60 +88,13 @@ columnsKept a before after =
     }
 
 -- The entries' columns after `read_table`.
-abbrev pub readTableColumns : List ℕ → Columns → Facts → Columns
-readTableColumns file c f = columnsKept (readTable file c f) c (entriesWritten (entriesIn (tableIn file)) c)
-
--- The facts' columns after `read_table`.
-abbrev pub readTableFacts : List ℕ → Columns → Facts → Facts
-readTableFacts file c f =
-    factsKept (readTable file c f) f
-    (factsWritten (columnsOf (entriesIn (tableIn file))) (length (entriesIn (tableIn file))) f)
-
--- The group of a node, by its tree.
-unfoldable pub groupOf : Columns → ℕ → List ℕ
-groupOf c n = group (width (tyAt c n)) (size (tyAt c n)) (digit (padded (tyAt c n))) (classOf c n)
-
--- The groups of the first n nodes.
-unfoldable pub groupsOf : Columns → ℕ → List ℕ
-groupsOf c zero = []
-groupsOf c (suc n) = groupsOf c n ++ groupOf c n
-
--- A buffer after the groups of the first n nodes were written to it; later bytes stay.
-abbrev pub groupsWritten : Columns → ℕ → List ℕ → List ℕ
-groupsWritten c n old = groupsOf c n ++ drop (groupSize * n) old
-
--- `fill_facts` to groups: the entries are judged as in a sound table, and the buffer must have a group for each node.
-abbrev pub fillGroups : Columns → ℕ → List ℕ → Answer (Unit {0})
-fillGroups c n gs =
-    ladder
-    (rung (not (countRight n && columnsReach c n)) 1 0
-    ∷ rung (ltb (firstBadEntry c n) n) 1 (firstBadEntry c n)
-    ∷ rung (not (groupsReach gs n)) 9 0
-    ∷ [])
-    tt
-
--- The buffer after `fill_facts`.
-abbrev pub fillGroupsOut : Columns → ℕ → List ℕ → List ℕ
-fillGroupsOut c n gs = kept (fillGroups c n gs) gs (groupsWritten c n gs)
-
--- `read_table` to groups: the whole file is judged first; then every column must reach the count, which is the answer, and the buffer must have a
--- group for each node.
-abbrev pub readGroups : List ℕ → Columns → List ℕ → Answer ℕ
-readGroups file c gs =
-    ladder
-    (fileRung (tableIn file)
-    ∷ rung (not (columnsReach c (length (entriesIn (tableIn file))) && groupsReach gs (length (entriesIn (tableIn file))))) 9 0
-    ∷ [])
-    (length (entriesIn (tableIn file)))
-
--- The entries' columns after `read_table`.
-abbrev pub readGroupsColumns : List ℕ → Columns → List ℕ → Columns
-readGroupsColumns file c gs = columnsKept (readGroups file c gs) c (entriesWritten (entriesIn (tableIn file)) c)
+abbrev pub readTableColumns : List ℕ → Columns → List ℕ → Columns
+readTableColumns file c gs = columnsKept (readTable file c gs) c (entriesWritten (entriesIn (tableIn file)) c)
 
 -- The buffer after `read_table`.
-abbrev pub readGroupsOut : List ℕ → Columns → List ℕ → List ℕ
-readGroupsOut file c gs =
-    kept (readGroups file c gs) gs
+abbrev pub readTableGroups : List ℕ → Columns → List ℕ → List ℕ
+readTableGroups file c gs =
+    kept (readTable file c gs) gs
     (groupsWritten (columnsOf (entriesIn (tableIn file))) (length (entriesIn (tableIn file))) gs)
 
 -- A question about the type of a node.

@@ -20,16 +20,13 @@ pub fn node_at(
     kinds: &[u8],
     lefts: &[u16],
     rights: &[u16],
-    widths: &[u64],
-    sizes: &[u64],
-    padded: &[u8],
-    classes: &[u16],
+    groups: &[u8],
     count: usize,
     n: usize,
 ) -> Node
-    requires { ⌜ Sound (table (now kinds) (now lefts) (now rights) (now widths) (now sizes) (now padded) (now classes) count) ⌝ }
+    requires { ⌜ Sound (table (now kinds) (now lefts) (now rights) (now groups) count) ⌝ }
     requires { ⌜ n < count ⌝ }
-    ensures { λ r. ⌜ Reads (table (now (kinds .entry)) (now (lefts .entry)) (now (rights .entry)) (now (widths .entry)) (now (sizes .entry)) (now (padded .entry)) (now (classes .entry)) count) n r ⌝ }
+    ensures { λ r. ⌜ Reads (table (now (kinds .entry)) (now (lefts .entry)) (now (rights .entry)) (now (groups .entry)) count) n r ⌝ }
 {
     let left = lefts[n] as usize;
     let right = rights[n] as usize;
@@ -37,10 +34,10 @@ pub fn node_at(
         kind: kinds[n],
         left: left,
         right: right,
-        width: widths[n],
-        left_width: widths[left],
-        right_width: widths[right],
-        padded: padded[n] == 1,
-        class: classes[n] as usize,
+        width: groups::width_at(groups, n),
+        left_width: groups::width_at(groups, left),
+        right_width: groups::width_at(groups, right),
+        padded: groups::padded_at(groups, n) == 1,
+        class: groups::class_at(groups, n) as usize,
     }
 }

@@ -4,16 +4,16 @@
 --   prune-refused prune-accepted        answer and output together
 --   lent-cut                    the record cut in the bytes lent, at its offset in the first byte, is the record cut
 --   starts walk-lent            it begins within the bytes, and the walks may be sent there
---   cut-length column-width     the cut has as many bits as the target, which is the width that the table tells
+--   cut-length group-width      the cut has as many bits as the target, which is the width that the table tells
 -- Assumes nothing.
 use mathlib.Core.Path.{_≡_, ap, sym, _∙_}
 use mathlib.Core.Bool.{Bool, true, false, not}
 use mathlib.Core.List.{List, [], _∷_}
 use mathlib.Core.Option.{Option}
-use Prim.Native.Nat.{ℕ, _-_, _/_, _%_, _≤_, _<_}
+use Prim.Native.Nat.{ℕ, _/_, _%_, _≤_, _<_}
 use native.Mathlib.Omega.{arith}
 use lib.Dec.{ltb}
-use lib.ListN.{length, getD, take, drop, length-take, length-drop}
+use lib.ListN.{length, getD, take}
 use borrow.Author.Tests.{lt-ltb, le-ltb}
 use Rattle.meaning.specs.Types.{bits}
 use Rattle.meaning.specs.Tables.{Table}
@@ -108,9 +108,9 @@ module _ (t : Table) (bytes : List ℕ) (offset node target : ℕ) where
   cut-length h a =
       ap (λ (o : Option (List Bool)). length (cutBits o)) (sym lent-cut) ∙ cut-bits (walk-lent h) (ap isCut lent-cut ∙ a)
 
-  -- The width that the column of facts has for the target is its true one.
-  pub column-width : Passes t (record-of bytes offset node) target → getD (t .facts .widths) target 0 ≡ bits (typeAt t target)
-  column-width h =
+  -- The width that the group of the target has is its true one.
+  pub group-width : Passes t (record-of bytes offset node) target → getD (t .facts .widths) target 0 ≡ bits (typeAt t target)
+  group-width h =
       let w = walk-lent h in
       let l = w .target-low in
       let e = width-bits (typeAt t target) in

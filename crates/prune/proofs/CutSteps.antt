@@ -24,7 +24,7 @@ use Rattle.meaning.specs.Records.{tag, padLeft, padRight, firstOf, secondOf}
 use Rattle.meaning.specs.Cuts.{rebuilt, joined, cut}
 use Rattle.meaning.specs.CutCalls.{isCut, cutBits}
 use Rattle.bits.proofs.Runs.{getD-run, take-run, drop-run}
-use Rattle.bits.proofs.Pasted.{paste-append, set-as-paste}
+use Rattle.meaning.proofs.Pasted.{paste-append, set-as-paste}
 use Rattle.laws.proofs.CutSides.{side, within, wrapped}
 use Rattle.laws.proofs.CutRules.{cut-sum-left, cut-sum-right, cut-sum-of-unit, cut-sum-of-product, cut-product-of-unit, cut-product-of-sum}
 

@@ -19,7 +19,7 @@ use Rattle.meaning.specs.CutCalls.{cutBits, cutOf}
 use Rattle.meaning.proofs.Tests.{and-left, and-right}
 use Rattle.nodes.specs.declared.Node.{Node}
 use Rattle.bits.proofs.OfBytes.{length-bitsOf}
-use Rattle.bits.proofs.Pasted.{paste-take, paste-append}
+use Rattle.meaning.proofs.Pasted.{paste-take, paste-append}
 use Rattle.laws.proofs.CutSides.{wrapped}
 use Rattle.prune.specs.Walks.{Lies}
 use Rattle.prune.specs.declared.Payload.{Payload}

@@ -64,41 +64,18 @@ fn fits(
     kinds: &[u8],
     lefts: &[u16],
     rights: &[u16],
-    widths: &[u64],
-    sizes: &[u64],
-    padded: &[u8],
-    classes: &[u16],
+    groups: &[u8],
     count: usize,
     src: &[u8],
     at: usize,
     node: usize,
     target: usize,
 ) -> bool
-    requires { ⌜ Walk (table (now kinds) (now lefts) (now rights) (now widths) (now sizes) (now padded) (now classes) count) (now src) at node target ⌝ }
-    ensures { λ r. ⌜ r ≡ isCut (cutOf (table (now (kinds .entry)) (now (lefts .entry)) (now (rights .entry)) (now (widths .entry)) (now (sizes .entry)) (now (padded .entry)) (now (classes .entry)) count) (record-of (now (src .entry)) at node) target) ⌝ }
+    requires { ⌜ Walk (table (now kinds) (now lefts) (now rights) (now groups) count) (now src) at node target ⌝ }
+    ensures { λ r. ⌜ r ≡ isCut (cutOf (table (now (kinds .entry)) (now (lefts .entry)) (now (rights .entry)) (now (groups .entry)) count) (record-of (now (src .entry)) at node) target) ⌝ }
 {
-    let goal = nodes::node_at(
-        kinds,
-        lefts,
-        rights,
-        widths,
-        sizes,
-        padded,
-        classes,
-        count,
-        target,
-    );
-    let given = nodes::node_at(
-        kinds,
-        lefts,
-        rights,
-        widths,
-        sizes,
-        padded,
-        classes,
-        count,
-        node,
-    );
+    let goal = nodes::node_at(kinds, lefts, rights, groups, count, target);
+    let given = nodes::node_at(kinds, lefts, rights, groups, count, node);
     let goal_class = goal.class;
     let given_class = given.class;
     if goal_class == given_class {
@@ -118,10 +95,7 @@ fn fits(
             kinds,
             lefts,
             rights,
-            widths,
-            sizes,
-            padded,
-            classes,
+            groups,
             count,
             src,
             at + side.given.before,
@@ -133,10 +107,7 @@ fn fits(
         kinds,
         lefts,
         rights,
-        widths,
-        sizes,
-        padded,
-        classes,
+        groups,
         count,
         src,
         at,
@@ -149,10 +120,7 @@ fn fits(
         kinds,
         lefts,
         rights,
-        widths,
-        sizes,
-        padded,
-        classes,
+        groups,
         count,
         src,
         at + given.left_width as usize,
@@ -166,10 +134,7 @@ fn write(
     kinds: &[u8],
     lefts: &[u16],
     rights: &[u16],
-    widths: &[u64],
-    sizes: &[u64],
-    padded: &[u8],
-    classes: &[u16],
+    groups: &[u8],
     count: usize,
     src: &[u8],
     at: usize,
@@ -178,33 +143,13 @@ fn write(
     out: &mut [u8],
     to: usize,
 )
-    requires { ⌜ Walk (table (now kinds) (now lefts) (now rights) (now widths) (now sizes) (now padded) (now classes) count) (now src) at node target ⌝ }
-    requires { ⌜ isCut (cutOf (table (now kinds) (now lefts) (now rights) (now widths) (now sizes) (now padded) (now classes) count) (record-of (now src) at node) target) ≡ true ⌝ }
-    requires { ⌜ Lies (now out) to (bits (typeAt (table (now kinds) (now lefts) (now rights) (now widths) (now sizes) (now padded) (now classes) count) target)) ⌝ }
-    ensures { λ _. ⌜ bitsOf (now (out .exit)) ≡ paste (bitsOf (now (out .entry))) to (cutBits (cutOf (table (now (kinds .entry)) (now (lefts .entry)) (now (rights .entry)) (now (widths .entry)) (now (sizes .entry)) (now (padded .entry)) (now (classes .entry)) count) (record-of (now (src .entry)) at node) target)) (bits (typeAt (table (now (kinds .entry)) (now (lefts .entry)) (now (rights .entry)) (now (widths .entry)) (now (sizes .entry)) (now (padded .entry)) (now (classes .entry)) count) target)) ⌝ }
+    requires { ⌜ Walk (table (now kinds) (now lefts) (now rights) (now groups) count) (now src) at node target ⌝ }
+    requires { ⌜ isCut (cutOf (table (now kinds) (now lefts) (now rights) (now groups) count) (record-of (now src) at node) target) ≡ true ⌝ }
+    requires { ⌜ Lies (now out) to (bits (typeAt (table (now kinds) (now lefts) (now rights) (now groups) count) target)) ⌝ }
+    ensures { λ _. ⌜ bitsOf (now (out .exit)) ≡ paste (bitsOf (now (out .entry))) to (cutBits (cutOf (table (now (kinds .entry)) (now (lefts .entry)) (now (rights .entry)) (now (groups .entry)) count) (record-of (now (src .entry)) at node) target)) (bits (typeAt (table (now (kinds .entry)) (now (lefts .entry)) (now (rights .entry)) (now (groups .entry)) count) target)) ⌝ }
 {
-    let wanted = nodes::node_at(
-        kinds,
-        lefts,
-        rights,
-        widths,
-        sizes,
-        padded,
-        classes,
-        count,
-        target,
-    );
-    let held = nodes::node_at(
-        kinds,
-        lefts,
-        rights,
-        widths,
-        sizes,
-        padded,
-        classes,
-        count,
-        node,
-    );
+    let wanted = nodes::node_at(kinds, lefts, rights, groups, count, target);
+    let held = nodes::node_at(kinds, lefts, rights, groups, count, node);
     let wanted_class = wanted.class;
     let held_class = held.class;
     if wanted_class == held_class {
@@ -226,10 +171,7 @@ fn write(
             kinds,
             lefts,
             rights,
-            widths,
-            sizes,
-            padded,
-            classes,
+            groups,
             count,
             src,
             at + side.given.before,
@@ -244,10 +186,7 @@ fn write(
         kinds,
         lefts,
         rights,
-        widths,
-        sizes,
-        padded,
-        classes,
+        groups,
         count,
         src,
         at,
@@ -260,10 +199,7 @@ fn write(
         kinds,
         lefts,
         rights,
-        widths,
-        sizes,
-        padded,
-        classes,
+        groups,
         count,
         src,
         at + held.left_width as usize,
@@ -280,10 +216,7 @@ pub fn prune(
     kinds: &[u8],
     lefts: &[u16],
     rights: &[u16],
-    widths: &[u64],
-    sizes: &[u64],
-    padded: &[u8],
-    classes: &[u16],
+    groups: &[u8],
     count: usize,
     bytes: &[u8],
     offset: usize,
@@ -291,17 +224,14 @@ pub fn prune(
     target: usize,
     out: &mut [u8],
 ) -> Count
-    ensures { λ r. ⌜ countOf r ≡ pruneCall (table (now (kinds .entry)) (now (lefts .entry)) (now (rights .entry)) (now (widths .entry)) (now (sizes .entry)) (now (padded .entry)) (now (classes .entry)) count) (record-of (now (bytes .entry)) offset node) target (now (out .entry)) ⌝ }
-    ensures { λ _. ⌜ now (out .exit) ≡ pruneOut (table (now (kinds .entry)) (now (lefts .entry)) (now (rights .entry)) (now (widths .entry)) (now (sizes .entry)) (now (padded .entry)) (now (classes .entry)) count) (record-of (now (bytes .entry)) offset node) target (now (out .entry)) ⌝ }
+    ensures { λ r. ⌜ countOf r ≡ pruneCall (table (now (kinds .entry)) (now (lefts .entry)) (now (rights .entry)) (now (groups .entry)) count) (record-of (now (bytes .entry)) offset node) target (now (out .entry)) ⌝ }
+    ensures { λ _. ⌜ now (out .exit) ≡ pruneOut (table (now (kinds .entry)) (now (lefts .entry)) (now (rights .entry)) (now (groups .entry)) count) (record-of (now (bytes .entry)) offset node) target (now (out .entry)) ⌝ }
 {
     let judged = gate::record_to(
         kinds,
         lefts,
         rights,
-        widths,
-        sizes,
-        padded,
-        classes,
+        groups,
         count,
         bytes,
         offset,
@@ -314,26 +244,13 @@ pub fn prune(
     let first = offset / 8;
     let src = &bytes[first..];
     let at = offset % 8;
-    if !fits(
-        kinds,
-        lefts,
-        rights,
-        widths,
-        sizes,
-        padded,
-        classes,
-        count,
-        src,
-        at,
-        node,
-        target,
-    ) {
+    if !fits(kinds, lefts, rights, groups, count, src, at, node, target) {
         return Count::Refused(Refusal {
             number: 7,
             place: 0,
         });
     }
-    let width = widths[target] as usize;
+    let width = groups::width_at(groups, target) as usize;
     if out.len() < (width + 7) / 8 {
         return Count::Refused(Refusal {
             number: 9,
@@ -344,10 +261,7 @@ pub fn prune(
         kinds,
         lefts,
         rights,
-        widths,
-        sizes,
-        padded,
-        classes,
+        groups,
         count,
         src,
         at,

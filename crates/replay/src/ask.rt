@@ -20,10 +20,7 @@ fn told(
     kinds: &[u8],
     lefts: &[u16],
     rights: &[u16],
-    widths: &[u64],
-    sizes: &[u64],
-    padded: &[u8],
-    classes: &[u16],
+    groups: &[u8],
     count: usize,
     a_bytes: &[u8],
     b_bytes: &[u8],
@@ -32,38 +29,13 @@ fn told(
     values: &mut [u64],
 ) -> u64 {
     if call == 2 {
-        return exports::qv_check_table(kinds, lefts, rights, widths, sizes, padded, classes, count);
+        return exports::qv_check_table(kinds, lefts, rights, groups, count);
     }
     if call < 11 {
-        return questions(
-            call,
-            kinds,
-            lefts,
-            rights,
-            widths,
-            sizes,
-            padded,
-            classes,
-            count,
-            q,
-            value,
-            values,
-        );
+        return questions(call, kinds, lefts, rights, groups, count, q, value, values);
     }
     if call < 16 {
-        return word_types(
-            call,
-            kinds,
-            lefts,
-            rights,
-            widths,
-            sizes,
-            padded,
-            classes,
-            count,
-            q,
-            value,
-        );
+        return word_types(call, kinds, lefts, rights, groups, count, q, value);
     }
     if call < 19 {
         return views(
@@ -71,10 +43,7 @@ fn told(
             kinds,
             lefts,
             rights,
-            widths,
-            sizes,
-            padded,
-            classes,
+            groups,
             count,
             a_bytes,
             q,
@@ -86,10 +55,7 @@ fn told(
         kinds,
         lefts,
         rights,
-        widths,
-        sizes,
-        padded,
-        classes,
+        groups,
         count,
         a_bytes,
         b_bytes,
@@ -104,10 +70,7 @@ fn made(
     kinds: &[u8],
     lefts: &[u16],
     rights: &[u16],
-    widths: &[u64],
-    sizes: &[u64],
-    padded: &[u8],
-    classes: &[u16],
+    groups: &[u8],
     count: usize,
     a_bytes: &[u8],
     b_bytes: &[u8],
@@ -125,10 +88,7 @@ fn made(
             kinds,
             lefts,
             rights,
-            widths,
-            sizes,
-            padded,
-            classes,
+            groups,
             count,
             a_bytes,
             b_bytes,
@@ -138,20 +98,7 @@ fn made(
         );
     }
     if call < 33 {
-        return small_words(
-            call,
-            kinds,
-            lefts,
-            rights,
-            widths,
-            sizes,
-            padded,
-            classes,
-            count,
-            q,
-            value,
-            out,
-        );
+        return small_words(call, kinds, lefts, rights, groups, count, q, value, out);
     }
     if call < 41 {
         return byte_words(
@@ -159,10 +106,7 @@ fn made(
             kinds,
             lefts,
             rights,
-            widths,
-            sizes,
-            padded,
-            classes,
+            groups,
             count,
             data,
             q,
@@ -176,10 +120,7 @@ fn made(
             kinds,
             lefts,
             rights,
-            widths,
-            sizes,
-            padded,
-            classes,
+            groups,
             count,
             a_bytes,
             b_bytes,
@@ -198,10 +139,7 @@ fn made(
             kinds,
             lefts,
             rights,
-            widths,
-            sizes,
-            padded,
-            classes,
+            groups,
             count,
             a_bytes,
             stream_bytes,
@@ -211,20 +149,7 @@ fn made(
             out,
         );
     }
-    cut(
-        kinds,
-        lefts,
-        rights,
-        widths,
-        sizes,
-        padded,
-        classes,
-        count,
-        a_bytes,
-        q,
-        value,
-        out,
-    )
+    cut(kinds, lefts, rights, groups, count, a_bytes, q, value, out)
 }
 
 // The call of a case, from 2 on, with the runs of its request as bytes. Answers the result.
@@ -234,10 +159,7 @@ pub(crate) fn ask(
     kinds: &[u8],
     lefts: &[u16],
     rights: &[u16],
-    widths: &[u64],
-    sizes: &[u64],
-    padded: &[u8],
-    classes: &[u16],
+    groups: &[u8],
     count: usize,
     q: Request,
     position: &mut u64,
@@ -260,10 +182,7 @@ pub(crate) fn ask(
             kinds,
             lefts,
             rights,
-            widths,
-            sizes,
-            padded,
-            classes,
+            groups,
             count,
             &list[a_from..a_to],
             &list[b_from..b_to],
@@ -287,10 +206,7 @@ pub(crate) fn ask(
         kinds,
         lefts,
         rights,
-        widths,
-        sizes,
-        padded,
-        classes,
+        groups,
         count,
         &list[a_from..a_to],
         &list[b_from..b_to],

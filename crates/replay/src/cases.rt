@@ -56,10 +56,7 @@ fn record_agrees(
     kinds: &[u8],
     lefts: &[u16],
     rights: &[u16],
-    widths: &[u64],
-    sizes: &[u64],
-    padded: &[u8],
-    classes: &[u16],
+    groups: &[u8],
     count: usize,
     q: Request,
     e: Expected,
@@ -79,10 +76,7 @@ fn record_agrees(
         kinds,
         lefts,
         rights,
-        widths,
-        sizes,
-        padded,
-        classes,
+        groups,
         count,
         q,
         &mut position,
@@ -112,15 +106,12 @@ fn written(code: u64, count: u64) -> usize {
     count as usize
 }
 
-// Call 0: a table's file, read into columns of 1,024 entries.
+// Call 0: a table's file, read into columns of 1,024 entries and as many groups.
 fn read_agrees(file: &[u8], nodes: &[u8], e: Expected, wanted: &[u64; 7]) -> bool {
     let mut kinds = [0xEEu8; 1024];
     let mut lefts = [0xEEEEu16; 1024];
     let mut rights = [0xEEEEu16; 1024];
-    let mut widths = [BEFORE; 1024];
-    let mut sizes = [BEFORE; 1024];
-    let mut padded = [0xEEu8; 1024];
-    let mut classes = [0xEEEEu16; 1024];
+    let mut groups = [0xEEu8; 19456];
     let mut count = BEFORE;
     let values = [BEFORE; 7];
     let code = exports::qv_read_table(
@@ -128,10 +119,7 @@ fn read_agrees(file: &[u8], nodes: &[u8], e: Expected, wanted: &[u64; 7]) -> boo
         &mut kinds,
         &mut lefts,
         &mut rights,
-        &mut widths,
-        &mut sizes,
-        &mut padded,
-        &mut classes,
+        &mut groups,
         &mut count,
     );
     if code != e.code {
@@ -145,15 +133,12 @@ fn read_agrees(file: &[u8], nodes: &[u8], e: Expected, wanted: &[u64; 7]) -> boo
         &kinds,
         &lefts,
         &rights,
-        &widths,
-        &sizes,
-        &padded,
-        &classes,
+        &groups,
         written(code, count),
     )
 }
 
-// Call 1: the facts of the table's entries, filled into columns of 1,024 entries.
+// Call 1: the facts of the table's entries, filled into 1,024 groups.
 fn fill_agrees(
     kinds: &[u8; 1024],
     lefts: &[u16; 1024],
@@ -162,20 +147,8 @@ fn fill_agrees(
     nodes: &[u8],
     e: Expected,
 ) -> bool {
-    let mut widths = [BEFORE; 1024];
-    let mut sizes = [BEFORE; 1024];
-    let mut padded = [0xEEu8; 1024];
-    let mut classes = [0xEEEEu16; 1024];
-    let code = exports::qv_fill_facts(
-        kinds,
-        lefts,
-        rights,
-        count,
-        &mut widths,
-        &mut sizes,
-        &mut padded,
-        &mut classes,
-    );
+    let mut groups = [0xEEu8; 19456];
+    let code = exports::qv_fill_facts(kinds, lefts, rights, count, &mut groups);
     if code != e.code {
         return false;
     }
@@ -187,15 +160,12 @@ fn fill_agrees(
         kinds,
         lefts,
         rights,
-        &widths,
-        &sizes,
-        &padded,
-        &classes,
+        &groups,
         written(code, count as u64),
     )
 }
 
-// Calls 0 and 1, whose output is columns. Neither has a stream: the expected position is the one before.
+// Calls 0 and 1, whose output is a table. Neither has a stream: the expected position is the one before.
 fn columns_agree(
     list: &[u8],
     call: usize,
@@ -238,10 +208,7 @@ pub(crate) fn replay_case(
     kinds: &[u8; 1024],
     lefts: &[u16; 1024],
     rights: &[u16; 1024],
-    widths: &[u64; 1024],
-    sizes: &[u64; 1024],
-    padded: &[u8; 1024],
-    classes: &[u16; 1024],
+    groups: &[u8; 19456],
     count: usize,
 ) -> Replayed {
     let q = request_at(list, at);
@@ -270,10 +237,7 @@ pub(crate) fn replay_case(
         kinds,
         lefts,
         rights,
-        widths,
-        sizes,
-        padded,
-        classes,
+        groups,
         count,
         q,
         e,

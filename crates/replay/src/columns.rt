@@ -1,21 +1,44 @@
-// The columns of a table against the nodes that a case expects: 24 bytes a node, one node after the other, each number with its highest byte first.
+// The columns and the groups of a table against the nodes that a case expects: 24 bytes a node, one node after the other, each number with its
+// highest byte first: kind, left, right, then width, size, padded and class, which a group has with their lowest byte first.
 use lists::highest_first;
 ghost use Prim.Native.Nat.{_+_, _≤_};
 ghost use lib.ListN.{length};
 
-// Whether the node at a position is the expected one.
-fn same_node(
-    nodes: &[u8],
-    at: usize,
-    kind: u8,
-    left: u16,
-    right: u16,
-    width: u64,
-    size: u64,
-    padded: u8,
-    class: u16,
-) -> bool
-    requires { ⌜ at + 24 ≤ length (now nodes) ⌝ }
+// Whether n bytes are the same in the opposite order.
+fn turned(nodes: &[u8], at: usize, groups: &[u8], from: usize, n: usize) -> bool
+    requires { ⌜ at + n ≤ length (now nodes) ⌝ }
+    requires { ⌜ from + n ≤ length (now groups) ⌝ }
+{
+    let mut i = 0;
+    while i < n {
+        if nodes[at + i] != groups[from + (n - 1 - i)] {
+            return false;
+        }
+        i += 1;
+    }
+    true
+}
+
+// Whether the facts in the group at a byte are the expected ones.
+fn same_group(nodes: &[u8], at: usize, groups: &[u8], from: usize) -> bool
+    requires { ⌜ at + 19 ≤ length (now nodes) ⌝ }
+    requires { ⌜ from + 19 ≤ length (now groups) ⌝ }
+{
+    if !turned(nodes, at, groups, from, 8) {
+        return false;
+    }
+    if !turned(nodes, at + 8, groups, from + 8, 8) {
+        return false;
+    }
+    if !turned(nodes, at + 16, groups, from + 16, 1) {
+        return false;
+    }
+    turned(nodes, at + 17, groups, from + 17, 2)
+}
+
+// Whether the entry at a position is the expected one.
+fn same_entry(nodes: &[u8], at: usize, kind: u8, left: u16, right: u16) -> bool
+    requires { ⌜ at + 5 ≤ length (now nodes) ⌝ }
 {
     if highest_first(nodes, at, 1) != kind as u64 {
         return false;
@@ -23,31 +46,16 @@ fn same_node(
     if highest_first(nodes, at + 1, 2) != left as u64 {
         return false;
     }
-    if highest_first(nodes, at + 3, 2) != right as u64 {
-        return false;
-    }
-    if highest_first(nodes, at + 5, 8) != width {
-        return false;
-    }
-    if highest_first(nodes, at + 13, 8) != size {
-        return false;
-    }
-    if highest_first(nodes, at + 21, 1) != padded as u64 {
-        return false;
-    }
-    highest_first(nodes, at + 22, 2) == class as u64
+    highest_first(nodes, at + 3, 2) == right as u64
 }
 
-// Whether the columns have the expected nodes, so many and no more.
+// Whether the columns and the groups have the expected nodes, so many and no more.
 pub(crate) fn same_nodes(
     nodes: &[u8],
     kinds: &[u8; 1024],
     lefts: &[u16; 1024],
     rights: &[u16; 1024],
-    widths: &[u64; 1024],
-    sizes: &[u64; 1024],
-    padded: &[u8; 1024],
-    classes: &[u16; 1024],
+    groups: &[u8; 19456],
     count: usize,
 ) -> bool {
     if count > 1024 {
@@ -58,17 +66,10 @@ pub(crate) fn same_nodes(
     }
     let mut k = 0;
     while k < count {
-        if !same_node(
-            nodes,
-            24 * k,
-            kinds[k],
-            lefts[k],
-            rights[k],
-            widths[k],
-            sizes[k],
-            padded[k],
-            classes[k],
-        ) {
+        if !same_entry(nodes, 24 * k, kinds[k], lefts[k], rights[k]) {
+            return false;
+        }
+        if !same_group(nodes, 24 * k + 5, groups, 19 * k) {
             return false;
         }
         k += 1;

@@ -17,17 +17,14 @@ pub struct Step {
     pub next: usize,
 }
 
-// Reads a table of the list into the columns. A table that is not sound is damage.
+// Reads a table of the list into the columns and the groups. A table that is not sound is damage.
 fn read_table(
     list: &[u8],
     at: usize,
     kinds: &mut [u8; 1024],
     lefts: &mut [u16; 1024],
     rights: &mut [u16; 1024],
-    widths: &mut [u64; 1024],
-    sizes: &mut [u64; 1024],
-    padded: &mut [u8; 1024],
-    classes: &mut [u16; 1024],
+    groups: &mut [u8; 19456],
 ) -> Step
     ensures { λ r. ⌜ r .call ≤ 50 ⌝ }
 {
@@ -35,17 +32,7 @@ fn read_table(
     let from = file.from;
     let to = file.to;
     let mut count = 0;
-    let code = exports::qv_read_table(
-        &list[from..to],
-        kinds,
-        lefts,
-        rights,
-        widths,
-        sizes,
-        padded,
-        classes,
-        &mut count,
-    );
+    let code = exports::qv_read_table(&list[from..to], kinds, lefts, rights, groups, &mut count);
     if code != 0 {
         return Step {
             call: 50,
@@ -70,26 +57,13 @@ pub fn take_step(
     kinds: &mut [u8; 1024],
     lefts: &mut [u16; 1024],
     rights: &mut [u16; 1024],
-    widths: &mut [u64; 1024],
-    sizes: &mut [u64; 1024],
-    padded: &mut [u8; 1024],
-    classes: &mut [u16; 1024],
+    groups: &mut [u8; 19456],
 ) -> Step
     ensures { λ r. ⌜ r .call ≤ 50 ⌝ }
 {
     let first = byte_at(list, at);
     if first.value == TABLE {
-        return read_table(
-            list,
-            first.next,
-            kinds,
-            lefts,
-            rights,
-            widths,
-            sizes,
-            padded,
-            classes,
-        );
+        return read_table(list, first.next, kinds, lefts, rights, groups);
     }
     if first.value >= 50 {
         return Step {
@@ -100,19 +74,7 @@ pub fn take_step(
         };
     }
     let call = first.value as usize;
-    let done = replay_case(
-        list,
-        first.next,
-        call,
-        kinds,
-        lefts,
-        rights,
-        widths,
-        sizes,
-        padded,
-        classes,
-        count,
-    );
+    let done = replay_case(list, first.next, call, kinds, lefts, rights, groups, count);
     Step {
         call,
         agrees: done.agrees,

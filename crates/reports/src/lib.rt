@@ -14,22 +14,10 @@ pub fn report_file(file: &[u8], out: &mut [u8]) -> usize
     let mut kinds = [0u8; 1024];
     let mut lefts = [0u16; 1024];
     let mut rights = [0u16; 1024];
-    let mut widths = [0u64; 1024];
-    let mut sizes = [0u64; 1024];
-    let mut padded = [0u8; 1024];
-    let mut classes = [0u16; 1024];
-    let read = table::read_table(
-        file,
-        &mut kinds,
-        &mut lefts,
-        &mut rights,
-        &mut widths,
-        &mut sizes,
-        &mut padded,
-        &mut classes,
-    );
+    let mut groups = [0u8; 19456];
+    let read = table::read_table(file, &mut kinds, &mut lefts, &mut rights, &mut groups);
     match read {
-        Count::Is(count) => lines::report(out, &kinds, &widths, &sizes, &padded, &classes, count),
+        Count::Is(count) => lines::report(out, &kinds, &groups, count),
         Count::Refused(r) => lines::refusal_line(out, r.number, r.place),
     }
 }

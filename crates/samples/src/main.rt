@@ -61,10 +61,7 @@ fn replay_list(list: &[u8]) {
     let mut kinds = [0u8; 1024];
     let mut lefts = [0u16; 1024];
     let mut rights = [0u16; 1024];
-    let mut widths = [0u64; 1024];
-    let mut sizes = [0u64; 1024];
-    let mut padded = [0u8; 1024];
-    let mut classes = [0u16; 1024];
+    let mut groups = [0u8; 19456];
     let mut count = 0;
     let mut replayed = [0u64; 51];
     let mut differing = [0u64; 51];
@@ -81,10 +78,7 @@ fn replay_list(list: &[u8]) {
             &mut kinds,
             &mut lefts,
             &mut rights,
-            &mut widths,
-            &mut sizes,
-            &mut padded,
-            &mut classes,
+            &mut groups,
         );
         at = step.next;
         if at > list.len() {

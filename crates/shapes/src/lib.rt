@@ -69,56 +69,23 @@ fn is_two(
     kinds: &[u8],
     lefts: &[u16],
     rights: &[u16],
-    widths: &[u64],
-    sizes: &[u64],
-    padded: &[u8],
-    classes: &[u16],
+    groups: &[u8],
     count: usize,
     node: usize,
 ) -> bool
-    requires { ⌜ Sound (table (now kinds) (now lefts) (now rights) (now widths) (now sizes) (now padded) (now classes) count) ⌝ }
+    requires { ⌜ Sound (table (now kinds) (now lefts) (now rights) (now groups) count) ⌝ }
     requires { ⌜ node < count ⌝ }
     ensures { λ r. ⌜ r ≡ same (tyAt (columns (now (kinds .entry)) (now (lefts .entry)) (now (rights .entry))) node) two ⌝ }
 {
-    let sum = node_at(
-        kinds,
-        lefts,
-        rights,
-        widths,
-        sizes,
-        padded,
-        classes,
-        count,
-        node,
-    );
+    let sum = node_at(kinds, lefts, rights, groups, count, node);
     if sum.kind != 1 {
         return false;
     }
-    let left = node_at(
-        kinds,
-        lefts,
-        rights,
-        widths,
-        sizes,
-        padded,
-        classes,
-        count,
-        sum.left,
-    );
+    let left = node_at(kinds, lefts, rights, groups, count, sum.left);
     if left.kind != 0 {
         return false;
     }
-    let right = node_at(
-        kinds,
-        lefts,
-        rights,
-        widths,
-        sizes,
-        padded,
-        classes,
-        count,
-        sum.right,
-    );
+    let right = node_at(kinds, lefts, rights, groups, count, sum.right);
     right.kind == 0
 }
 
@@ -127,74 +94,31 @@ pub fn is_word(
     kinds: &[u8],
     lefts: &[u16],
     rights: &[u16],
-    widths: &[u64],
-    sizes: &[u64],
-    padded: &[u8],
-    classes: &[u16],
+    groups: &[u8],
     count: usize,
     node: usize,
     n: usize,
 ) -> bool
-    requires { ⌜ Sound (table (now kinds) (now lefts) (now rights) (now widths) (now sizes) (now padded) (now classes) count) ⌝ }
+    requires { ⌜ Sound (table (now kinds) (now lefts) (now rights) (now groups) count) ⌝ }
     requires { ⌜ node < count ⌝ }
     ensures { λ r. ⌜ r ≡ isWord n (tyAt (columns (now (kinds .entry)) (now (lefts .entry)) (now (rights .entry))) node) ⌝ }
 {
     let mut at = node;
     let mut below = n;
     while 0 < below {
-        let square = node_at(
-            kinds,
-            lefts,
-            rights,
-            widths,
-            sizes,
-            padded,
-            classes,
-            count,
-            at,
-        );
+        let square = node_at(kinds, lefts, rights, groups, count, at);
         if square.kind != 2 {
             return false;
         }
-        let left = node_at(
-            kinds,
-            lefts,
-            rights,
-            widths,
-            sizes,
-            padded,
-            classes,
-            count,
-            square.left,
-        );
-        let right = node_at(
-            kinds,
-            lefts,
-            rights,
-            widths,
-            sizes,
-            padded,
-            classes,
-            count,
-            square.right,
-        );
+        let left = node_at(kinds, lefts, rights, groups, count, square.left);
+        let right = node_at(kinds, lefts, rights, groups, count, square.right);
         if left.class != right.class {
             return false;
         }
         at = square.left;
         below -= 1;
     }
-    is_two(
-        kinds,
-        lefts,
-        rights,
-        widths,
-        sizes,
-        padded,
-        classes,
-        count,
-        at,
-    )
+    is_two(kinds, lefts, rights, groups, count, at)
 }
 
 // The n of a word type, or `NO_WORD` where the node is none. A width with exactly one bit set, and the zeros below it, names the only candidate.
@@ -202,18 +126,15 @@ pub fn word_of(
     kinds: &[u8],
     lefts: &[u16],
     rights: &[u16],
-    widths: &[u64],
-    sizes: &[u64],
-    padded: &[u8],
-    classes: &[u16],
+    groups: &[u8],
     count: usize,
     node: usize,
 ) -> usize
-    requires { ⌜ Sound (table (now kinds) (now lefts) (now rights) (now widths) (now sizes) (now padded) (now classes) count) ⌝ }
+    requires { ⌜ Sound (table (now kinds) (now lefts) (now rights) (now groups) count) ⌝ }
     requires { ⌜ node < count ⌝ }
     ensures { λ r. ⌜ r ≡ asWord (tyAt (columns (now (kinds .entry)) (now (lefts .entry)) (now (rights .entry))) node) ⌝ }
 {
-    let width = widths[node];
+    let width = groups::width_at(groups, node);
     if u64::count_ones(width) != 1 {
         return NO_WORD;
     }
@@ -221,18 +142,7 @@ pub fn word_of(
     if NO_WORD <= n {
         return NO_WORD;
     }
-    if is_word(
-        kinds,
-        lefts,
-        rights,
-        widths,
-        sizes,
-        padded,
-        classes,
-        count,
-        node,
-        n,
-    ) {
+    if is_word(kinds, lefts, rights, groups, count, node, n) {
         return n;
     }
     NO_WORD
@@ -243,59 +153,25 @@ fn is_segment(
     kinds: &[u8],
     lefts: &[u16],
     rights: &[u16],
-    widths: &[u64],
-    sizes: &[u64],
-    padded: &[u8],
-    classes: &[u16],
+    groups: &[u8],
     count: usize,
     node: usize,
     n: usize,
 ) -> bool
-    requires { ⌜ Sound (table (now kinds) (now lefts) (now rights) (now widths) (now sizes) (now padded) (now classes) count) ⌝ }
+    requires { ⌜ Sound (table (now kinds) (now lefts) (now rights) (now groups) count) ⌝ }
     requires { ⌜ node < count ⌝ }
     requires { ⌜ n < 13 ⌝ }
     ensures { λ r. ⌜ r ≡ same (tyAt (columns (now (kinds .entry)) (now (lefts .entry)) (now (rights .entry))) node) (segment n) ⌝ }
 {
-    let sum = node_at(
-        kinds,
-        lefts,
-        rights,
-        widths,
-        sizes,
-        padded,
-        classes,
-        count,
-        node,
-    );
+    let sum = node_at(kinds, lefts, rights, groups, count, node);
     if sum.kind != 1 {
         return false;
     }
-    let left = node_at(
-        kinds,
-        lefts,
-        rights,
-        widths,
-        sizes,
-        padded,
-        classes,
-        count,
-        sum.left,
-    );
+    let left = node_at(kinds, lefts, rights, groups, count, sum.left);
     if left.kind != 0 {
         return false;
     }
-    is_word(
-        kinds,
-        lefts,
-        rights,
-        widths,
-        sizes,
-        padded,
-        classes,
-        count,
-        sum.right,
-        3 + n,
-    )
+    is_word(kinds, lefts, rights, groups, count, sum.right, 3 + n)
 }
 
 // The node is buffer type n: down the right sides, a segment on the left of each product, to segment 0.
@@ -303,15 +179,12 @@ pub fn is_buffer(
     kinds: &[u8],
     lefts: &[u16],
     rights: &[u16],
-    widths: &[u64],
-    sizes: &[u64],
-    padded: &[u8],
-    classes: &[u16],
+    groups: &[u8],
     count: usize,
     node: usize,
     n: usize,
 ) -> bool
-    requires { ⌜ Sound (table (now kinds) (now lefts) (now rights) (now widths) (now sizes) (now padded) (now classes) count) ⌝ }
+    requires { ⌜ Sound (table (now kinds) (now lefts) (now rights) (now groups) count) ⌝ }
     requires { ⌜ node < count ⌝ }
     requires { ⌜ n < 13 ⌝ }
     ensures { λ r. ⌜ r ≡ same (tyAt (columns (now (kinds .entry)) (now (lefts .entry)) (now (rights .entry))) node) (buffer n) ⌝ }
@@ -319,49 +192,17 @@ pub fn is_buffer(
     let mut at = node;
     let mut below = n;
     while 0 < below {
-        let pair = node_at(
-            kinds,
-            lefts,
-            rights,
-            widths,
-            sizes,
-            padded,
-            classes,
-            count,
-            at,
-        );
+        let pair = node_at(kinds, lefts, rights, groups, count, at);
         if pair.kind != 2 {
             return false;
         }
-        if !is_segment(
-            kinds,
-            lefts,
-            rights,
-            widths,
-            sizes,
-            padded,
-            classes,
-            count,
-            pair.left,
-            below,
-        ) {
+        if !is_segment(kinds, lefts, rights, groups, count, pair.left, below) {
             return false;
         }
         at = pair.right;
         below -= 1;
     }
-    is_segment(
-        kinds,
-        lefts,
-        rights,
-        widths,
-        sizes,
-        padded,
-        classes,
-        count,
-        at,
-        0,
-    )
+    is_segment(kinds, lefts, rights, groups, count, at, 0)
 }
 
 // The node is the hash state's type: a buffer of up to 63 bytes, a 64-bit count, 32 midstate bytes.
@@ -369,83 +210,27 @@ pub fn is_ctx8(
     kinds: &[u8],
     lefts: &[u16],
     rights: &[u16],
-    widths: &[u64],
-    sizes: &[u64],
-    padded: &[u8],
-    classes: &[u16],
+    groups: &[u8],
     count: usize,
     node: usize,
 ) -> bool
-    requires { ⌜ Sound (table (now kinds) (now lefts) (now rights) (now widths) (now sizes) (now padded) (now classes) count) ⌝ }
+    requires { ⌜ Sound (table (now kinds) (now lefts) (now rights) (now groups) count) ⌝ }
     requires { ⌜ node < count ⌝ }
     ensures { λ r. ⌜ r ≡ same (tyAt (columns (now (kinds .entry)) (now (lefts .entry)) (now (rights .entry))) node) ctx8 ⌝ }
 {
-    let state = node_at(
-        kinds,
-        lefts,
-        rights,
-        widths,
-        sizes,
-        padded,
-        classes,
-        count,
-        node,
-    );
+    let state = node_at(kinds, lefts, rights, groups, count, node);
     if state.kind != 2 {
         return false;
     }
-    let rest = node_at(
-        kinds,
-        lefts,
-        rights,
-        widths,
-        sizes,
-        padded,
-        classes,
-        count,
-        state.right,
-    );
+    let rest = node_at(kinds, lefts, rights, groups, count, state.right);
     if rest.kind != 2 {
         return false;
     }
-    if !is_word(
-        kinds,
-        lefts,
-        rights,
-        widths,
-        sizes,
-        padded,
-        classes,
-        count,
-        rest.left,
-        6,
-    ) {
+    if !is_word(kinds, lefts, rights, groups, count, rest.left, 6) {
         return false;
     }
-    if !is_word(
-        kinds,
-        lefts,
-        rights,
-        widths,
-        sizes,
-        padded,
-        classes,
-        count,
-        rest.right,
-        8,
-    ) {
+    if !is_word(kinds, lefts, rights, groups, count, rest.right, 8) {
         return false;
     }
-    is_buffer(
-        kinds,
-        lefts,
-        rights,
-        widths,
-        sizes,
-        padded,
-        classes,
-        count,
-        state.left,
-        5,
-    )
+    is_buffer(kinds, lefts, rights, groups, count, state.left, 5)
 }

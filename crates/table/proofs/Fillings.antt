@@ -1,15 +1,15 @@
--- How `fill_facts` answers, and what it leaves in the columns.
+-- How `fill_facts` answers, and what it leaves in the groups.
 --
 --   and-fails                   a conjunction whose second test fails
---   columns-reached facts-reached   columns that pass the test of their lengths
---   reached-columns reached-facts   columns that are long enough pass it
---   too-few too-many short-column faulty-entry short-facts all-right
+--   columns-reached             columns that pass the test of their lengths
+--   reached-columns             columns that are long enough pass it
+--   too-few too-many short-column faulty-entry short-groups all-right
 --                               the answer, by the first test that fails or by there being none
 --   fillable                    where it accepts, the entries are right and there is room
---   Fills                       an answer with the columns afterwards
---   fill-refused fill-accepted  columns that stand as they stood; columns that are filled
+--   Fills                       an answer with the groups afterwards
+--   fill-refused fill-accepted  groups that stand as they stood; groups that are filled
 -- Assumes nothing.
-use Prim.Native.Nat.{ℕ, _<_, _≤_}
+use Prim.Native.Nat.{ℕ, _*_, _<_, _≤_}
 use mathlib.Core.Path.{_≡_, refl, ap, sym, _∙_}
 use mathlib.Core.Bool.{Bool, true, false, not, _&&_}
 use mathlib.Core.List.{List, [], _∷_}
@@ -17,13 +17,14 @@ use native.Mathlib.Omega.{arith}
 use lib.Dec.{ltb, leb}
 use lib.ListN.{length}
 use borrow.Author.Tests.{ltb-false, leb-true, lt-ltb, le-ltb, le-leb, lt-leb, not-false}
-use Rattle.meaning.specs.Tables.{Columns, Facts, countRight, columnsReach, factsReach, reaches, entryRight, firstBadEntry}
+use Rattle.meaning.specs.Groups.{groupSize}
+use Rattle.meaning.specs.Tables.{Columns, countRight, columnsReach, groupsReach, reaches, entryRight, firstBadEntry}
 use Rattle.meaning.specs.Ladder.{Answer, refused, accepted, Rung, rung, ladder, kept}
-use Rattle.meaning.specs.TypeCalls.{fillFacts, fillFactsOut, factsWritten}
+use Rattle.meaning.specs.TypeCalls.{groupsWritten, fillFacts, fillFactsOut}
 use Rattle.meaning.proofs.Tests.{and-left, and-right, and-both}
 use Rattle.meaning.proofs.Choices.{least-before}
 use Rattle.meaning.proofs.Ladders.{ladder-holds, ladder-fails, ladder-clear, kept-refused, kept-accepted}
-use Rattle.facts.specs.Known.{Reach, FactsReach, Fillable, Filled}
+use Rattle.facts.specs.Known.{Reach, Fillable}
 
 pub columns-reached : (c : Columns) (n : ℕ) → columnsReach c n ≡ true → Reach c n
 columns-reached c n h =
@@ -34,98 +35,75 @@ columns-reached c n h =
       rights-reach = leb-true n (length (c .rights)) (and-right (reaches n (c .kinds) && reaches n (c .lefts)) (reaches n (c .rights)) h);
     }
 
-pub facts-reached : (f : Facts) (n : ℕ) → factsReach f n ≡ true → FactsReach f n
-facts-reached f n h =
-    let three = and-left (reaches n (f .widths) && reaches n (f .sizes) && reaches n (f .paddeds)) (reaches n (f .classes)) h in
-    let two = and-left (reaches n (f .widths) && reaches n (f .sizes)) (reaches n (f .paddeds)) three in
-    record {
-      widths-reach = leb-true n (length (f .widths)) (and-left (reaches n (f .widths)) (reaches n (f .sizes)) two);
-      sizes-reach = leb-true n (length (f .sizes)) (and-right (reaches n (f .widths)) (reaches n (f .sizes)) two);
-      paddeds-reach = leb-true n (length (f .paddeds)) (and-right (reaches n (f .widths) && reaches n (f .sizes)) (reaches n (f .paddeds)) three);
-      classes-reach =
-          leb-true n (length (f .classes))
-          (and-right (reaches n (f .widths) && reaches n (f .sizes) && reaches n (f .paddeds)) (reaches n (f .classes)) h);
-    }
-
 -- And the other way: columns that are long enough pass the test.
 pub reached-columns : (c : Columns) (n : ℕ) → n ≤ length (c .kinds) → n ≤ length (c .lefts) → n ≤ length (c .rights) → columnsReach c n ≡ true
 reached-columns c n k l r =
     rw (le-leb n (length (c .kinds)) k, le-leb n (length (c .lefts)) l, le-leb n (length (c .rights)) r)
-
-pub reached-facts : (f : Facts) (n : ℕ) → n ≤ length (f .widths) → n ≤ length (f .sizes) → n ≤ length (f .paddeds) → n ≤ length (f .classes)
-    → factsReach f n ≡ true
-reached-facts f n w s p q =
-    rw (
-      le-leb n (length (f .widths)) w,
-      le-leb n (length (f .sizes)) s,
-      le-leb n (length (f .paddeds)) p,
-      le-leb n (length (f .classes)) q,
-    )
 
 -- A conjunction whose second test fails.
 pub and-fails : (a b : Bool) → b ≡ false → (a && b) ≡ false
 and-fails true b h = h
 and-fails false b h = refl
 
-module _ (c : Columns) (n : ℕ) (f : Facts) where
+module _ (c : Columns) (n : ℕ) (g : List ℕ) where
   -- The count and the columns of the entries.
   abbrev shape : Bool
   shape = countRight n && columnsReach c n
 
   -- What follows them on the ladder.
   abbrev entries : List Rung
-  entries = rung (ltb (firstBadEntry c n) n) 1 (firstBadEntry c n) ∷ rung (not (factsReach f n)) 9 0 ∷ []
+  entries = rung (ltb (firstBadEntry c n) n) 1 (firstBadEntry c n) ∷ rung (not (groupsReach g n)) 9 0 ∷ []
 
   abbrev room : List Rung
-  room = rung (not (factsReach f n)) 9 0 ∷ []
+  room = rung (not (groupsReach g n)) 9 0 ∷ []
 
-  misshaped : shape ≡ false → refused 1 0 ≡ fillFacts c n f
+  misshaped : shape ≡ false → refused 1 0 ≡ fillFacts c n g
   misshaped h = sym (ladder-holds (not shape) 1 0 entries (tt {0}) (ap not h))
 
-  pub too-few : n < 1 → refused 1 0 ≡ fillFacts c n f
+  pub too-few : n < 1 → refused 1 0 ≡ fillFacts c n g
   too-few h = misshaped (rw (lt-leb 1 n h))
 
-  pub too-many : 1024 < n → refused 1 0 ≡ fillFacts c n f
+  pub too-many : 1024 < n → refused 1 0 ≡ fillFacts c n g
   too-many h = misshaped (ap (λ b. b && columnsReach c n) (and-fails (leb 1 n) (leb n 1024) (lt-leb n 1024 h)))
 
-  pub short-column : columnsReach c n ≡ false → refused 1 0 ≡ fillFacts c n f
+  pub short-column : columnsReach c n ≡ false → refused 1 0 ≡ fillFacts c n g
   short-column h = misshaped (and-fails (countRight n) (columnsReach c n) h)
 
   module _ (some : 1 ≤ n) (few : n ≤ 1024) (reach : columnsReach c n ≡ true) where
-    after-shape : fillFacts c n f ≡ ladder entries (tt {0})
+    after-shape : fillFacts c n g ≡ ladder entries (tt {0})
     after-shape =
         ladder-fails (not shape) 1 0 entries (tt {0})
         (ap not (and-both (countRight n) (columnsReach c n) (and-both (leb 1 n) (leb n 1024) (le-leb 1 n some) (le-leb n 1024 few)) reach))
 
-    pub faulty-entry : (p : ℕ) → p ≡ firstBadEntry c n → p < n → refused 1 p ≡ fillFacts c n f
+    pub faulty-entry : (p : ℕ) → p ≡ firstBadEntry c n → p < n → refused 1 p ≡ fillFacts c n g
     faulty-entry p e h =
-        let g : firstBadEntry c n < n = omega arith in
-        ap (refused 1) e ∙ sym (after-shape ∙ ladder-holds (ltb (firstBadEntry c n) n) 1 (firstBadEntry c n) room (tt {0}) (lt-ltb (firstBadEntry c n) n g))
+        let l : firstBadEntry c n < n = omega arith in
+        ap (refused 1) e ∙ sym (after-shape ∙ ladder-holds (ltb (firstBadEntry c n) n) 1 (firstBadEntry c n) room (tt {0}) (lt-ltb (firstBadEntry c n) n l))
 
     module _ (p : ℕ) (e : p ≡ firstBadEntry c n) (h : n ≤ p) where
-      after-entries : fillFacts c n f ≡ ladder room (tt {0})
+      after-entries : fillFacts c n g ≡ ladder room (tt {0})
       after-entries =
-          let g : n ≤ firstBadEntry c n = omega arith in
-          after-shape ∙ ladder-fails (ltb (firstBadEntry c n) n) 1 (firstBadEntry c n) room (tt {0}) (le-ltb (firstBadEntry c n) n g)
+          let l : n ≤ firstBadEntry c n = omega arith in
+          after-shape ∙ ladder-fails (ltb (firstBadEntry c n) n) 1 (firstBadEntry c n) room (tt {0}) (le-ltb (firstBadEntry c n) n l)
 
-      pub short-facts : factsReach f n ≡ false → refused 9 0 ≡ fillFacts c n f
-      short-facts r = sym (after-entries ∙ ladder-holds (not (factsReach f n)) 9 0 [] (tt {0}) (ap not r))
+      pub short-groups : groupsReach g n ≡ false → refused 9 0 ≡ fillFacts c n g
+      short-groups r = sym (after-entries ∙ ladder-holds (not (groupsReach g n)) 9 0 [] (tt {0}) (ap not r))
 
-      pub all-right : factsReach f n ≡ true → accepted (tt {0}) ≡ fillFacts c n f
+      pub all-right : groupsReach g n ≡ true → accepted (tt {0}) ≡ fillFacts c n g
       unfolding ladder
-      all-right r = sym (after-entries ∙ ladder-fails (not (factsReach f n)) 9 0 [] (tt {0}) (ap not r))
+      all-right r = sym (after-entries ∙ ladder-fails (not (groupsReach g n)) 9 0 [] (tt {0}) (ap not r))
 
   -- What is known once it accepts.
   pub record Right : Type 0 where
     pub some-node : 1 ≤ n
-    pub can-fill : Fillable c f n
+    pub can-fill : Fillable c g n
 
-  pub fillable : accepted (tt {0}) ≡ fillFacts c n f → Right
+  pub fillable : accepted (tt {0}) ≡ fillFacts c n g → Right
   unfolding firstBadEntry
   fillable h =
       let first = ladder-clear (not shape) 1 0 entries (tt {0}) (tt {0}) (sym h) in
       let second = ladder-clear (ltb (firstBadEntry c n) n) 1 (firstBadEntry c n) room (tt {0}) (tt {0}) (first .1) in
-      let third = ladder-clear (not (factsReach f n)) 9 0 [] (tt {0}) (tt {0}) (second .1) in
+      let third = ladder-clear (not (groupsReach g n)) 9 0 [] (tt {0}) (tt {0}) (second .1) in
       let s = not-false shape (first .0) in
       let counted = and-left (countRight n) (columnsReach c n) s in
       let none : n ≤ firstBadEntry c n = ltb-false (firstBadEntry c n) n (second .0) in
@@ -137,51 +115,18 @@ module _ (c : Columns) (n : ℕ) (f : Facts) where
                   record {
                     few = leb-true n 1024 (and-right (leb 1 n) (leb n 1024) counted);
                     entries-reach = columns-reached c n (and-right (countRight n) (columnsReach c n) s);
-                    facts-reach = facts-reached f n (not-false (factsReach f n) (third .0));
+                    groups-reach = leb-true (groupSize * n) (length g) (not-false (groupsReach g n) (third .0));
                   };
               entries = λ k l. not-false (entryRight c k) (least-before (λ j. not (entryRight c j)) n k (omega arith));
             };
       }
 
-  -- An answer of `fill_facts` with the columns of facts afterwards.
-  abbrev pub Fills : Answer (Unit {0}) → Facts → Type 0
-  Fills a g =
-      (a ≡ fillFacts c n f)
-      × ((g .widths ≡ fillFactsOut c n f .widths)
-      × ((g .sizes ≡ fillFactsOut c n f .sizes)
-      × ((g .paddeds ≡ fillFactsOut c n f .paddeds)
-      × (g .classes ≡ fillFactsOut c n f .classes))))
+  -- An answer of `fill_facts` with the groups afterwards.
+  abbrev pub Fills : Answer (Unit {0}) → List ℕ → Type 0
+  Fills a h = (a ≡ fillFacts c n g) × (h ≡ fillFactsOut c n g)
 
-  -- A column after a refusal, and after an accepted call.
-  stays : (m p : ℕ) → refused m p ≡ fillFacts c n f → (before after : List ℕ) → before ≡ kept (fillFacts c n f) before after
-  stays m p h before after = sym (kept-refused (fillFacts c n f) m p before after (sym h))
+  pub fill-refused : (m p : ℕ) → refused m p ≡ fillFacts c n g → Fills (refused m p) g
+  fill-refused m p h = (h, sym (kept-refused (fillFacts c n g) m p g (groupsWritten c n g) (sym h)))
 
-  turns : accepted (tt {0}) ≡ fillFacts c n f → (before after now′ : List ℕ) → now′ ≡ after → now′ ≡ kept (fillFacts c n f) before after
-  turns h before after now′ e = e ∙ sym (kept-accepted (fillFacts c n f) (tt {0}) before after (sym h))
-
-  pub fill-refused : (m p : ℕ) → refused m p ≡ fillFacts c n f → Fills (refused m p) f
-  fill-refused m p h = (
-    h,
-    (
-      stays m p h (f .widths) (factsWritten c n f .widths),
-      (
-        stays m p h (f .sizes) (factsWritten c n f .sizes),
-        (stays m p h (f .paddeds) (factsWritten c n f .paddeds), stays m p h (f .classes) (factsWritten c n f .classes)),
-      ),
-    ),
-  )
-
-  pub fill-accepted : (g : Facts) → accepted (tt {0}) ≡ fillFacts c n f → Filled c n f g → Fills (accepted (tt {0})) g
-  fill-accepted g h d = (
-    h,
-    (
-      turns h (f .widths) (factsWritten c n f .widths) (g .widths) (d .widths-filled),
-      (
-        turns h (f .sizes) (factsWritten c n f .sizes) (g .sizes) (d .sizes-filled),
-        (
-          turns h (f .paddeds) (factsWritten c n f .paddeds) (g .paddeds) (d .paddeds-filled),
-          turns h (f .classes) (factsWritten c n f .classes) (g .classes) (d .classes-filled),
-        ),
-      ),
-    ),
-  )
+  pub fill-accepted : (after : List ℕ) → accepted (tt {0}) ≡ fillFacts c n g → after ≡ groupsWritten c n g → Fills (accepted (tt {0})) after
+  fill-accepted after h d = (h, d ∙ sym (kept-accepted (fillFacts c n g) (tt {0}) g (groupsWritten c n g) (sym h)))

@@ -1,7 +1,7 @@
--- What the columns of a sound table say of types, as the questions read it.
+-- What the columns and the groups of a sound table say of types, as the questions read it.
 --
 --   place-fits                  a node as an index
---   columnsAt facts-read        all facts of a node
+--   factsSaid told-read facts-read      all facts of a node: as they are handed in, as they were read one by one, as they are by its tree
 --   class-same                  equal class is the same tree
 --   unit-kind sum-kind product-kind     a type is unit, a sum, a product by its kind
 --   unit-told empty-told sum-told product-told  the questions about a node whose facts are told
@@ -31,14 +31,29 @@ use Rattle.meaning.proofs.Trees.{tree-class, class-trees}
 use Rattle.meaning.proofs.Sounds.{sound-tree, sound-kind, sound-width, sound-size, sound-padded, sound-class}
 use Rattle.table.proofs.Asking.{judged, Named, named, answered, Told, told, told-pass, told-answered, asks-swapped}
 
--- Everything that the columns say of a node.
-abbrev pub columnsAt : Table → ℕ → NodeFacts
-columnsAt t n =
+-- Everything that the table that is handed in says of a node.
+abbrev pub factsSaid : Table → ℕ → NodeFacts
+factsSaid t n =
     record {
       widthOf = getD (t .facts .widths) n 0;
       sizeOf = getD (t .facts .sizes) n 0;
       paddedOf = eqb (getD (t .facts .paddeds) n 0) 1;
       classNo = getD (t .facts .classes) n 0;
+      kindOf = kind (t .columns) n;
+      leftNode = left (t .columns) n;
+      rightNode = right (t .columns) n;
+    }
+
+pub told-read : (t : Table) (n : ℕ) {w z p k : ℕ} → w ≡ getD (t .facts .widths) n 0 → z ≡ getD (t .facts .sizes) n 0 → p ≡ getD (t .facts .paddeds) n 0
+    → k ≡ getD (t .facts .classes) n 0
+    → record { widthOf = w; sizeOf = z; paddedOf = eqb p 1; classNo = k; kindOf = kind (t .columns) n; leftNode = left (t .columns) n; rightNode = right (t .columns) n } ≡ factsSaid t n
+told-read t n e f g h =
+    λ i.
+    record {
+      widthOf = e i;
+      sizeOf = f i;
+      paddedOf = eqb (g i) 1;
+      classNo = h i;
       kindOf = kind (t .columns) n;
       leftNode = left (t .columns) n;
       rightNode = right (t .columns) n;
@@ -71,7 +86,7 @@ module _ (t : Table) (s : Sound t) (n : ℕ) (h : n < t .count) where
   pub place-fits : (k : ℕ) → k ≤ 8 → Fits w64 (n * k)
   place-fits k l = record { fits = lt-of-le-of-lt (mul-le-mul (le-of-lt (lt-of-lt-of-le h (s .few-nodes))) l) (lit< tt) }
 
-  pub facts-read : columnsAt t n ≡ factsAt (t .columns) n
+  pub facts-read : factsSaid t n ≡ factsAt (t .columns) n
   facts-read =
       λ i.
       record {
@@ -129,20 +144,19 @@ module _ (t : Table) (n : ℕ) {f : NodeFacts} (h : accepted f ≡ factsOf t n) 
   pub product-told : ladder (shaped (eqb (f .kindOf) 2)) (record { leftNode = f .leftNode; rightNode = f .rightNode }) ≡ typeAsProduct t n
   product-told = let k = told t n h in sides-told 2 (isProd (typeAt t n)) (product-kind t (k .is-sound) n (k .n-in))
 
--- The questions about two nodes, from the columns.
-module _ (t : Table) (a b : ℕ) (h : accepted (tt {0}) ≡ judged t (a ∷ b ∷ [])) where
-  pub same-told : accepted (eqb (getD (t .facts .classes) a 0) (getD (t .facts .classes) b 0)) ≡ sameType t a b
-  same-told =
+-- The questions about two nodes, from their classes and widths as they were read.
+module _ (t : Table) (a b : ℕ) (h : accepted (tt {0}) ≡ judged t (a ∷ b ∷ [])) {x y : ℕ} where
+  pub same-told : x ≡ getD (t .facts .classes) a 0 → y ≡ getD (t .facts .classes) b 0 → accepted (eqb x y) ≡ sameType t a b
+  same-told e f =
       let k = named t a b h in
-      answered t (a ∷ b ∷ []) (same (typeAt t a) (typeAt t b)) (eqb (getD (t .facts .classes) a 0) (getD (t .facts .classes) b 0)) h
-      (ap₂ eqb (sound-class t (k .is-sound) a (k .a-in)) (sound-class t (k .is-sound) b (k .b-in)) ∙ class-same (t .columns) a b)
+      answered t (a ∷ b ∷ []) (same (typeAt t a) (typeAt t b)) (eqb x y) h
+      (ap₂ eqb (e ∙ sound-class t (k .is-sound) a (k .a-in)) (f ∙ sound-class t (k .is-sound) b (k .b-in)) ∙ class-same (t .columns) a b)
 
-  pub padding-told : (r : ℕ) → r ≡ max (getD (t .facts .widths) a 0) (getD (t .facts .widths) b 0) - getD (t .facts .widths) a 0
-      → accepted r ≡ padLeftCall t a b
-  padding-told r e =
+  pub padding-told : x ≡ getD (t .facts .widths) a 0 → y ≡ getD (t .facts .widths) b 0 → (r : ℕ) → r ≡ max x y - x → accepted r ≡ padLeftCall t a b
+  padding-told e f r d =
       let k = named t a b h in
       answered t (a ∷ b ∷ []) (max (width (typeAt t a)) (width (typeAt t b)) - width (typeAt t a)) r h
-      (e ∙ ap₂ (λ x y. max x y - x) (sound-width t (k .is-sound) a (k .a-in)) (sound-width t (k .is-sound) b (k .b-in)))
+      (d ∙ ap₂ (λ x y. max x y - x) (e ∙ sound-width t (k .is-sound) a (k .a-in)) (f ∙ sound-width t (k .is-sound) b (k .b-in)))
 
 pub padding-swapped : (t : Table) (a b : ℕ) → padLeftCall t b a ≡ padRightCall t a b
 padding-swapped t a b =

@@ -1,5 +1,5 @@
 // The type table: its check, its facts, its file, and every question about types alone. A refusal answers a number and a place, and leaves
-// every column as it stood. Assumes nothing: each call judges all that it is handed.
+// every column and group as it stood. Assumes nothing: each call judges all that it is handed.
 mod questions;
 mod tables;
 mod words;

@@ -21,20 +21,16 @@ pub(crate) fn present(
     kinds: &[u8],
     lefts: &[u16],
     rights: &[u16],
-    widths: &[u64],
-    sizes: &[u64],
-    padded: &[u8],
-    classes: &[u16],
+    groups: &[u8],
     count: usize,
     a: usize,
     b: usize,
 ) -> Done
     ensures { λ r.
         ⌜ doneOf r ≡ calls.asks
-        (table (now (kinds .entry)) (now (lefts .entry)) (now (rights .entry)) (now (widths .entry)) (now (sizes .entry)) (now (padded .entry))
-        (now (classes .entry)) count) (a ∷ b ∷ []) [] (tt {0}) ⌝ }
+        (table (now (kinds .entry)) (now (lefts .entry)) (now (rights .entry)) (now (groups .entry)) count) (a ∷ b ∷ []) [] (tt {0}) ⌝ }
 {
-    let judged = gate::sound(kinds, lefts, rights, widths, sizes, padded, classes, count);
+    let judged = gate::sound(kinds, lefts, rights, groups, count);
     if let Done::Refused(r) = judged {
         return Done::Refused(r);
     }
@@ -58,38 +54,23 @@ pub fn facts_of(
     kinds: &[u8],
     lefts: &[u16],
     rights: &[u16],
-    widths: &[u64],
-    sizes: &[u64],
-    padded: &[u8],
-    classes: &[u16],
+    groups: &[u8],
     count: usize,
     node: usize,
 ) -> Told
     ensures { λ r.
         ⌜ factsOf r ≡ calls.factsOf
-        (table (now (kinds .entry)) (now (lefts .entry)) (now (rights .entry)) (now (widths .entry)) (now (sizes .entry)) (now (padded .entry))
-        (now (classes .entry)) count) node ⌝ }
+        (table (now (kinds .entry)) (now (lefts .entry)) (now (rights .entry)) (now (groups .entry)) count) node ⌝ }
 {
-    let judged = present(
-        kinds,
-        lefts,
-        rights,
-        widths,
-        sizes,
-        padded,
-        classes,
-        count,
-        node,
-        node,
-    );
+    let judged = present(kinds, lefts, rights, groups, count, node, node);
     if let Done::Refused(r) = judged {
         return Told::Refused(r);
     }
     Told::Are(Facts {
-        width: widths[node],
-        size: sizes[node],
-        padded: padded[node] == 1,
-        class: classes[node] as usize,
+        width: groups::width_at(groups, node),
+        size: groups::size_at(groups, node),
+        padded: groups::padded_at(groups, node) == 1,
+        class: groups::class_at(groups, node) as usize,
         kind: kinds[node],
         left: lefts[node] as usize,
         right: rights[node] as usize,
@@ -101,35 +82,20 @@ pub fn same_type(
     kinds: &[u8],
     lefts: &[u16],
     rights: &[u16],
-    widths: &[u64],
-    sizes: &[u64],
-    padded: &[u8],
-    classes: &[u16],
+    groups: &[u8],
     count: usize,
     a: usize,
     b: usize,
 ) -> Flag
     ensures { λ r.
         ⌜ flagOf r ≡ calls.sameType
-        (table (now (kinds .entry)) (now (lefts .entry)) (now (rights .entry)) (now (widths .entry)) (now (sizes .entry)) (now (padded .entry))
-        (now (classes .entry)) count) a b ⌝ }
+        (table (now (kinds .entry)) (now (lefts .entry)) (now (rights .entry)) (now (groups .entry)) count) a b ⌝ }
 {
-    let judged = present(
-        kinds,
-        lefts,
-        rights,
-        widths,
-        sizes,
-        padded,
-        classes,
-        count,
-        a,
-        b,
-    );
+    let judged = present(kinds, lefts, rights, groups, count, a, b);
     if let Done::Refused(r) = judged {
         return Flag::Refused(r);
     }
-    Flag::Is(classes[a] == classes[b])
+    Flag::Is(groups::class_at(groups, a) == groups::class_at(groups, b))
 }
 
 // The type is unit.
@@ -137,29 +103,15 @@ pub fn is_unit(
     kinds: &[u8],
     lefts: &[u16],
     rights: &[u16],
-    widths: &[u64],
-    sizes: &[u64],
-    padded: &[u8],
-    classes: &[u16],
+    groups: &[u8],
     count: usize,
     node: usize,
 ) -> Flag
     ensures { λ r.
         ⌜ flagOf r ≡ calls.isUnitCall
-        (table (now (kinds .entry)) (now (lefts .entry)) (now (rights .entry)) (now (widths .entry)) (now (sizes .entry)) (now (padded .entry))
-        (now (classes .entry)) count) node ⌝ }
+        (table (now (kinds .entry)) (now (lefts .entry)) (now (rights .entry)) (now (groups .entry)) count) node ⌝ }
 {
-    match facts_of(
-        kinds,
-        lefts,
-        rights,
-        widths,
-        sizes,
-        padded,
-        classes,
-        count,
-        node,
-    ) {
+    match facts_of(kinds, lefts, rights, groups, count, node) {
         Told::Refused(r) => Flag::Refused(r),
         Told::Are(f) => Flag::Is(f.kind == 0),
     }
@@ -170,29 +122,15 @@ pub fn is_empty(
     kinds: &[u8],
     lefts: &[u16],
     rights: &[u16],
-    widths: &[u64],
-    sizes: &[u64],
-    padded: &[u8],
-    classes: &[u16],
+    groups: &[u8],
     count: usize,
     node: usize,
 ) -> Flag
     ensures { λ r.
         ⌜ flagOf r ≡ calls.isEmptyCall
-        (table (now (kinds .entry)) (now (lefts .entry)) (now (rights .entry)) (now (widths .entry)) (now (sizes .entry)) (now (padded .entry))
-        (now (classes .entry)) count) node ⌝ }
+        (table (now (kinds .entry)) (now (lefts .entry)) (now (rights .entry)) (now (groups .entry)) count) node ⌝ }
 {
-    match facts_of(
-        kinds,
-        lefts,
-        rights,
-        widths,
-        sizes,
-        padded,
-        classes,
-        count,
-        node,
-    ) {
+    match facts_of(kinds, lefts, rights, groups, count, node) {
         Told::Refused(r) => Flag::Refused(r),
         Told::Are(f) => Flag::Is(f.width == 0),
     }
@@ -220,29 +158,15 @@ pub fn as_sum(
     kinds: &[u8],
     lefts: &[u16],
     rights: &[u16],
-    widths: &[u64],
-    sizes: &[u64],
-    padded: &[u8],
-    classes: &[u16],
+    groups: &[u8],
     count: usize,
     node: usize,
 ) -> Sided
     ensures { λ r.
         ⌜ sidesOf r ≡ calls.typeAsSum
-        (table (now (kinds .entry)) (now (lefts .entry)) (now (rights .entry)) (now (widths .entry)) (now (sizes .entry)) (now (padded .entry))
-        (now (classes .entry)) count) node ⌝ }
+        (table (now (kinds .entry)) (now (lefts .entry)) (now (rights .entry)) (now (groups .entry)) count) node ⌝ }
 {
-    match facts_of(
-        kinds,
-        lefts,
-        rights,
-        widths,
-        sizes,
-        padded,
-        classes,
-        count,
-        node,
-    ) {
+    match facts_of(kinds, lefts, rights, groups, count, node) {
         Told::Refused(r) => Sided::Refused(r),
         Told::Are(f) => sides_if(f, 1),
     }
@@ -253,29 +177,15 @@ pub fn as_product(
     kinds: &[u8],
     lefts: &[u16],
     rights: &[u16],
-    widths: &[u64],
-    sizes: &[u64],
-    padded: &[u8],
-    classes: &[u16],
+    groups: &[u8],
     count: usize,
     node: usize,
 ) -> Sided
     ensures { λ r.
         ⌜ sidesOf r ≡ calls.typeAsProduct
-        (table (now (kinds .entry)) (now (lefts .entry)) (now (rights .entry)) (now (widths .entry)) (now (sizes .entry)) (now (padded .entry))
-        (now (classes .entry)) count) node ⌝ }
+        (table (now (kinds .entry)) (now (lefts .entry)) (now (rights .entry)) (now (groups .entry)) count) node ⌝ }
 {
-    match facts_of(
-        kinds,
-        lefts,
-        rights,
-        widths,
-        sizes,
-        padded,
-        classes,
-        count,
-        node,
-    ) {
+    match facts_of(kinds, lefts, rights, groups, count, node) {
         Told::Refused(r) => Sided::Refused(r),
         Told::Are(f) => sides_if(f, 2),
     }
@@ -296,35 +206,20 @@ pub fn pad_left(
     kinds: &[u8],
     lefts: &[u16],
     rights: &[u16],
-    widths: &[u64],
-    sizes: &[u64],
-    padded: &[u8],
-    classes: &[u16],
+    groups: &[u8],
     count: usize,
     a: usize,
     b: usize,
 ) -> Count
     ensures { λ r.
         ⌜ countOf r ≡ calls.padLeftCall
-        (table (now (kinds .entry)) (now (lefts .entry)) (now (rights .entry)) (now (widths .entry)) (now (sizes .entry)) (now (padded .entry))
-        (now (classes .entry)) count) a b ⌝ }
+        (table (now (kinds .entry)) (now (lefts .entry)) (now (rights .entry)) (now (groups .entry)) count) a b ⌝ }
 {
-    let judged = present(
-        kinds,
-        lefts,
-        rights,
-        widths,
-        sizes,
-        padded,
-        classes,
-        count,
-        a,
-        b,
-    );
+    let judged = present(kinds, lefts, rights, groups, count, a, b);
     if let Done::Refused(r) = judged {
         return Count::Refused(r);
     }
-    Count::Is(padding(widths[a], widths[b]))
+    Count::Is(padding(groups::width_at(groups, a), groups::width_at(groups, b)))
 }
 
 // The padding of right records of the sum of two types: that of left records of the sum the other way round.
@@ -332,29 +227,14 @@ pub fn pad_right(
     kinds: &[u8],
     lefts: &[u16],
     rights: &[u16],
-    widths: &[u64],
-    sizes: &[u64],
-    padded: &[u8],
-    classes: &[u16],
+    groups: &[u8],
     count: usize,
     a: usize,
     b: usize,
 ) -> Count
     ensures { λ r.
         ⌜ countOf r ≡ calls.padRightCall
-        (table (now (kinds .entry)) (now (lefts .entry)) (now (rights .entry)) (now (widths .entry)) (now (sizes .entry)) (now (padded .entry))
-        (now (classes .entry)) count) a b ⌝ }
+        (table (now (kinds .entry)) (now (lefts .entry)) (now (rights .entry)) (now (groups .entry)) count) a b ⌝ }
 {
-    pad_left(
-        kinds,
-        lefts,
-        rights,
-        widths,
-        sizes,
-        padded,
-        classes,
-        count,
-        b,
-        a,
-    )
+    pad_left(kinds, lefts, rights, groups, count, b, a)
 }

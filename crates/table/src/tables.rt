@@ -5,27 +5,18 @@ use answers::Done;
 use answers::Refusal;
 use files::Judged;
 ghost use mathlib.Core.Path.{_≡_};
-ghost use Rattle.meaning.specs.Tables.{table, columns, facts, columnsReach, factsReach};
-ghost use Rattle.meaning.specs.TypeCalls.{checkTable, fillFacts, fillFactsOut, readTable, readTableColumns, readTableFacts};
+ghost use Prim.Native.Nat.{_≤_};
+ghost use Rattle.meaning.specs.Tables.{table, columns, columnsReach, groupsReach};
+ghost use Rattle.meaning.specs.TypeCalls.{checkTable, fillFacts, fillFactsOut, readTable, readTableColumns, readTableGroups};
 ghost use Rattle.answers.specs.Verdicts.{doneOf, countOf};
 
 // The table is sound.
-pub fn check_table(
-    kinds: &[u8],
-    lefts: &[u16],
-    rights: &[u16],
-    widths: &[u64],
-    sizes: &[u64],
-    padded: &[u8],
-    classes: &[u16],
-    count: usize,
-) -> Done
+pub fn check_table(kinds: &[u8], lefts: &[u16], rights: &[u16], groups: &[u8], count: usize) -> Done
     ensures { λ r.
         ⌜ doneOf r ≡ checkTable
-        (table (now (kinds .entry)) (now (lefts .entry)) (now (rights .entry)) (now (widths .entry)) (now (sizes .entry)) (now (padded .entry))
-        (now (classes .entry)) count) ⌝ }
+        (table (now (kinds .entry)) (now (lefts .entry)) (now (rights .entry)) (now (groups .entry)) count) ⌝ }
 {
-    gate::sound(kinds, lefts, rights, widths, sizes, padded, classes, count)
+    gate::sound(kinds, lefts, rights, groups, count)
 }
 
 // Each column of entries has as many as the count.
@@ -41,37 +32,20 @@ fn columns_reach(kinds: &[u8], lefts: &[u16], rights: &[u16], count: usize) -> b
     count <= rights.len()
 }
 
-// Each column of facts has as many as the count.
-fn facts_reach(widths: &[u64], sizes: &[u64], padded: &[u8], classes: &[u16], count: usize) -> bool
-    ensures { λ r. ⌜ r ≡ factsReach (facts (now (widths .entry)) (now (sizes .entry)) (now (padded .entry)) (now (classes .entry))) count ⌝ }
+// There is a group for each of so many nodes.
+fn groups_reach(groups: &[u8], count: usize) -> bool
+    requires { ⌜ count ≤ 1024 ⌝ }
+    ensures { λ r. ⌜ r ≡ groupsReach (now (groups .entry)) count ⌝ }
 {
-    if widths.len() < count {
-        return false;
-    }
-    if sizes.len() < count {
-        return false;
-    }
-    if padded.len() < count {
-        return false;
-    }
-    count <= classes.len()
+    groups::GROUP_BYTES * count <= groups.len()
 }
 
 // Whether facts can be filled in: the entries are right, and there is room.
-fn may_fill(
-    kinds: &[u8],
-    lefts: &[u16],
-    rights: &[u16],
-    count: usize,
-    widths: &[u64],
-    sizes: &[u64],
-    padded: &[u8],
-    classes: &[u16],
-) -> Done
+fn may_fill(kinds: &[u8], lefts: &[u16], rights: &[u16], count: usize, groups: &[u8]) -> Done
     ensures { λ r.
         ⌜ doneOf r ≡ fillFacts
         (columns (now (kinds .entry)) (now (lefts .entry)) (now (rights .entry))) count
-        (facts (now (widths .entry)) (now (sizes .entry)) (now (padded .entry)) (now (classes .entry))) ⌝ }
+        (now (groups .entry)) ⌝ }
 {
     if count < 1 {
         return Done::Refused(Refusal {
@@ -98,7 +72,7 @@ fn may_fill(
             place: bad,
         });
     }
-    if !facts_reach(widths, sizes, padded, classes, count) {
+    if !groups_reach(groups, count) {
         return Done::Refused(Refusal {
             number: 9,
             place: 0,
@@ -113,55 +87,31 @@ pub fn fill_facts(
     lefts: &[u16],
     rights: &[u16],
     count: usize,
-    widths: &mut [u64],
-    sizes: &mut [u64],
-    padded: &mut [u8],
-    classes: &mut [u16],
+    groups: &mut [u8],
 ) -> Done
     ensures { λ r.
         ⌜ doneOf r ≡ fillFacts
         (columns (now (kinds .entry)) (now (lefts .entry)) (now (rights .entry))) count
-        (facts (now (widths .entry)) (now (sizes .entry)) (now (padded .entry)) (now (classes .entry))) ⌝ }
+        (now (groups .entry)) ⌝ }
     ensures { λ _.
-        ⌜ now (widths .exit) ≡ fillFactsOut
+        ⌜ now (groups .exit) ≡ fillFactsOut
         (columns (now (kinds .entry)) (now (lefts .entry)) (now (rights .entry))) count
-        (facts (now (widths .entry)) (now (sizes .entry)) (now (padded .entry)) (now (classes .entry))) .widths ⌝ }
-    ensures { λ _.
-        ⌜ now (sizes .exit) ≡ fillFactsOut
-        (columns (now (kinds .entry)) (now (lefts .entry)) (now (rights .entry))) count
-        (facts (now (widths .entry)) (now (sizes .entry)) (now (padded .entry)) (now (classes .entry))) .sizes ⌝ }
-    ensures { λ _.
-        ⌜ now (padded .exit) ≡ fillFactsOut
-        (columns (now (kinds .entry)) (now (lefts .entry)) (now (rights .entry))) count
-        (facts (now (widths .entry)) (now (sizes .entry)) (now (padded .entry)) (now (classes .entry))) .paddeds ⌝ }
-    ensures { λ _.
-        ⌜ now (classes .exit) ≡ fillFactsOut
-        (columns (now (kinds .entry)) (now (lefts .entry)) (now (rights .entry))) count
-        (facts (now (widths .entry)) (now (sizes .entry)) (now (padded .entry)) (now (classes .entry))) .classes ⌝ }
+        (now (groups .entry)) ⌝ }
 {
-    let judged = may_fill(kinds, lefts, rights, count, widths, sizes, padded, classes);
+    let judged = may_fill(kinds, lefts, rights, count, groups);
     if let Done::Refused(r) = judged {
         return Done::Refused(r);
     }
-    facts::fill(kinds, lefts, rights, count, widths, sizes, padded, classes);
+    facts::fill(kinds, lefts, rights, count, groups);
     Done::Accepted
 }
 
 // Whether a table can be read: the file is sound, and there is room. The count of its nodes.
-fn may_read(
-    file: &[u8],
-    kinds: &[u8],
-    lefts: &[u16],
-    rights: &[u16],
-    widths: &[u64],
-    sizes: &[u64],
-    padded: &[u8],
-    classes: &[u16],
-) -> Count
+fn may_read(file: &[u8], kinds: &[u8], lefts: &[u16], rights: &[u16], groups: &[u8]) -> Count
     ensures { λ r.
         ⌜ countOf r ≡ readTable (now (file .entry))
         (columns (now (kinds .entry)) (now (lefts .entry)) (now (rights .entry)))
-        (facts (now (widths .entry)) (now (sizes .entry)) (now (padded .entry)) (now (classes .entry))) ⌝ }
+        (now (groups .entry)) ⌝ }
 {
     match files::judge_file(file) {
         Judged::Fault(place) => Count::Refused(Refusal {
@@ -175,7 +125,7 @@ fn may_read(
                     place: 0,
                 });
             }
-            if !facts_reach(widths, sizes, padded, classes, count) {
+            if !groups_reach(groups, count) {
                 return Count::Refused(Refusal {
                     number: 9,
                     place: 0,
@@ -192,49 +142,34 @@ pub fn read_table(
     kinds: &mut [u8],
     lefts: &mut [u16],
     rights: &mut [u16],
-    widths: &mut [u64],
-    sizes: &mut [u64],
-    padded: &mut [u8],
-    classes: &mut [u16],
+    groups: &mut [u8],
 ) -> Count
     ensures { λ r.
         ⌜ countOf r ≡ readTable (now (file .entry))
         (columns (now (kinds .entry)) (now (lefts .entry)) (now (rights .entry)))
-        (facts (now (widths .entry)) (now (sizes .entry)) (now (padded .entry)) (now (classes .entry))) ⌝ }
+        (now (groups .entry)) ⌝ }
     ensures { λ _.
         ⌜ now (kinds .exit) ≡ readTableColumns (now (file .entry))
         (columns (now (kinds .entry)) (now (lefts .entry)) (now (rights .entry)))
-        (facts (now (widths .entry)) (now (sizes .entry)) (now (padded .entry)) (now (classes .entry))) .kinds ⌝ }
+        (now (groups .entry)) .kinds ⌝ }
     ensures { λ _.
         ⌜ now (lefts .exit) ≡ readTableColumns (now (file .entry))
         (columns (now (kinds .entry)) (now (lefts .entry)) (now (rights .entry)))
-        (facts (now (widths .entry)) (now (sizes .entry)) (now (padded .entry)) (now (classes .entry))) .lefts ⌝ }
+        (now (groups .entry)) .lefts ⌝ }
     ensures { λ _.
         ⌜ now (rights .exit) ≡ readTableColumns (now (file .entry))
         (columns (now (kinds .entry)) (now (lefts .entry)) (now (rights .entry)))
-        (facts (now (widths .entry)) (now (sizes .entry)) (now (padded .entry)) (now (classes .entry))) .rights ⌝ }
+        (now (groups .entry)) .rights ⌝ }
     ensures { λ _.
-        ⌜ now (widths .exit) ≡ readTableFacts (now (file .entry))
+        ⌜ now (groups .exit) ≡ readTableGroups (now (file .entry))
         (columns (now (kinds .entry)) (now (lefts .entry)) (now (rights .entry)))
-        (facts (now (widths .entry)) (now (sizes .entry)) (now (padded .entry)) (now (classes .entry))) .widths ⌝ }
-    ensures { λ _.
-        ⌜ now (sizes .exit) ≡ readTableFacts (now (file .entry))
-        (columns (now (kinds .entry)) (now (lefts .entry)) (now (rights .entry)))
-        (facts (now (widths .entry)) (now (sizes .entry)) (now (padded .entry)) (now (classes .entry))) .sizes ⌝ }
-    ensures { λ _.
-        ⌜ now (padded .exit) ≡ readTableFacts (now (file .entry))
-        (columns (now (kinds .entry)) (now (lefts .entry)) (now (rights .entry)))
-        (facts (now (widths .entry)) (now (sizes .entry)) (now (padded .entry)) (now (classes .entry))) .paddeds ⌝ }
-    ensures { λ _.
-        ⌜ now (classes .exit) ≡ readTableFacts (now (file .entry))
-        (columns (now (kinds .entry)) (now (lefts .entry)) (now (rights .entry)))
-        (facts (now (widths .entry)) (now (sizes .entry)) (now (padded .entry)) (now (classes .entry))) .classes ⌝ }
+        (now (groups .entry)) ⌝ }
 {
-    let judged = may_read(file, kinds, lefts, rights, widths, sizes, padded, classes);
+    let judged = may_read(file, kinds, lefts, rights, groups);
     let Count::Is(count) = judged else {
         return judged;
     };
     files::write_columns(file, kinds, lefts, rights);
-    facts::fill(kinds, lefts, rights, count, widths, sizes, padded, classes);
+    facts::fill(kinds, lefts, rights, count, groups);
     Count::Is(count)
 }

@@ -14,44 +14,19 @@ pub fn as_word(
     kinds: &[u8],
     lefts: &[u16],
     rights: &[u16],
-    widths: &[u64],
-    sizes: &[u64],
-    padded: &[u8],
-    classes: &[u16],
+    groups: &[u8],
     count: usize,
     node: usize,
 ) -> Count
     ensures { λ r.
         ⌜ countOf r ≡ calls.asWordCall
-        (table (now (kinds .entry)) (now (lefts .entry)) (now (rights .entry)) (now (widths .entry)) (now (sizes .entry)) (now (padded .entry))
-        (now (classes .entry)) count) node ⌝ }
+        (table (now (kinds .entry)) (now (lefts .entry)) (now (rights .entry)) (now (groups .entry)) count) node ⌝ }
 {
-    let judged = present(
-        kinds,
-        lefts,
-        rights,
-        widths,
-        sizes,
-        padded,
-        classes,
-        count,
-        node,
-        node,
-    );
+    let judged = present(kinds, lefts, rights, groups, count, node, node);
     if let Done::Refused(r) = judged {
         return Count::Refused(r);
     }
-    let n = shapes::word_of(
-        kinds,
-        lefts,
-        rights,
-        widths,
-        sizes,
-        padded,
-        classes,
-        count,
-        node,
-    );
+    let n = shapes::word_of(kinds, lefts, rights, groups, count, node);
     if 32 <= n {
         return Count::Refused(Refusal {
             number: 7,
@@ -92,31 +67,16 @@ pub fn is_buffer8(
     kinds: &[u8],
     lefts: &[u16],
     rights: &[u16],
-    widths: &[u64],
-    sizes: &[u64],
-    padded: &[u8],
-    classes: &[u16],
+    groups: &[u8],
     count: usize,
     node: usize,
     n: usize,
 ) -> Flag
     ensures { λ r.
         ⌜ flagOf r ≡ calls.isBuffer8
-        (table (now (kinds .entry)) (now (lefts .entry)) (now (rights .entry)) (now (widths .entry)) (now (sizes .entry)) (now (padded .entry))
-        (now (classes .entry)) count) node n ⌝ }
+        (table (now (kinds .entry)) (now (lefts .entry)) (now (rights .entry)) (now (groups .entry)) count) node n ⌝ }
 {
-    let judged = present(
-        kinds,
-        lefts,
-        rights,
-        widths,
-        sizes,
-        padded,
-        classes,
-        count,
-        node,
-        node,
-    );
+    let judged = present(kinds, lefts, rights, groups, count, node, node);
     if let Done::Refused(r) = judged {
         return Flag::Refused(r);
     }
@@ -126,18 +86,7 @@ pub fn is_buffer8(
             place: 0,
         });
     }
-    Flag::Is(shapes::is_buffer(
-        kinds,
-        lefts,
-        rights,
-        widths,
-        sizes,
-        padded,
-        classes,
-        count,
-        node,
-        n,
-    ))
+    Flag::Is(shapes::is_buffer(kinds, lefts, rights, groups, count, node, n))
 }
 
 // The type is the hash state's.
@@ -145,42 +94,17 @@ pub fn is_ctx8(
     kinds: &[u8],
     lefts: &[u16],
     rights: &[u16],
-    widths: &[u64],
-    sizes: &[u64],
-    padded: &[u8],
-    classes: &[u16],
+    groups: &[u8],
     count: usize,
     node: usize,
 ) -> Flag
     ensures { λ r.
         ⌜ flagOf r ≡ calls.isCtx8
-        (table (now (kinds .entry)) (now (lefts .entry)) (now (rights .entry)) (now (widths .entry)) (now (sizes .entry)) (now (padded .entry))
-        (now (classes .entry)) count) node ⌝ }
+        (table (now (kinds .entry)) (now (lefts .entry)) (now (rights .entry)) (now (groups .entry)) count) node ⌝ }
 {
-    let judged = present(
-        kinds,
-        lefts,
-        rights,
-        widths,
-        sizes,
-        padded,
-        classes,
-        count,
-        node,
-        node,
-    );
+    let judged = present(kinds, lefts, rights, groups, count, node, node);
     if let Done::Refused(r) = judged {
         return Flag::Refused(r);
     }
-    Flag::Is(shapes::is_ctx8(
-        kinds,
-        lefts,
-        rights,
-        widths,
-        sizes,
-        padded,
-        classes,
-        count,
-        node,
-    ))
+    Flag::Is(shapes::is_ctx8(kinds, lefts, rights, groups, count, node))
 }

@@ -12,7 +12,7 @@ use native.Mathlib.Omega.{arith}
 use lib.ListN.{length, set, take, length-append, length-replicate}
 use lib.Seq.{paste, length-take-le}
 use Rattle.meaning.specs.Bits.{zeros}
-use Rattle.bits.proofs.Pasted.{paste-take, paste-append, set-as-paste}
+use Rattle.meaning.proofs.Pasted.{paste-take, paste-append, set-as-paste}
 
 -- The next piece, after one that begins at bit 0.
 next : (old v : List Bool) (m : ℕ) (s : List Bool) (n : ℕ) → length v ≡ m → paste (paste old 0 v m) m s n ≡ paste old 0 (v ++ take n s) (m + n)

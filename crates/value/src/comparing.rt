@@ -17,10 +17,7 @@ pub fn equal(
     kinds: &[u8],
     lefts: &[u16],
     rights: &[u16],
-    widths: &[u64],
-    sizes: &[u64],
-    padded: &[u8],
-    classes: &[u16],
+    groups: &[u8],
     count: usize,
     a_bytes: &[u8],
     a_offset: usize,
@@ -29,16 +26,13 @@ pub fn equal(
     b_offset: usize,
     b_node: usize,
 ) -> Flag
-    ensures { λ r. ⌜ flagOf r ≡ calls.equal (table (now (kinds .entry)) (now (lefts .entry)) (now (rights .entry)) (now (widths .entry)) (now (sizes .entry)) (now (padded .entry)) (now (classes .entry)) count) (record-of (now («a_bytes» .entry)) «a_offset» «a_node») (record-of (now («b_bytes» .entry)) «b_offset» «b_node») ⌝ }
+    ensures { λ r. ⌜ flagOf r ≡ calls.equal (table (now (kinds .entry)) (now (lefts .entry)) (now (rights .entry)) (now (groups .entry)) count) (record-of (now («a_bytes» .entry)) «a_offset» «a_node») (record-of (now («b_bytes» .entry)) «b_offset» «b_node») ⌝ }
 {
     let judged = gate::two(
         kinds,
         lefts,
         rights,
-        widths,
-        sizes,
-        padded,
-        classes,
+        groups,
         count,
         a_bytes,
         a_offset,
@@ -54,10 +48,7 @@ pub fn equal(
         kinds,
         lefts,
         rights,
-        widths,
-        sizes,
-        padded,
-        classes,
+        groups,
         count,
         a_bytes,
         a_offset,
@@ -73,10 +64,7 @@ pub fn compare(
     kinds: &[u8],
     lefts: &[u16],
     rights: &[u16],
-    widths: &[u64],
-    sizes: &[u64],
-    padded: &[u8],
-    classes: &[u16],
+    groups: &[u8],
     count: usize,
     a_bytes: &[u8],
     a_offset: usize,
@@ -85,16 +73,13 @@ pub fn compare(
     b_offset: usize,
     b_node: usize,
 ) -> Compared
-    ensures { λ r. ⌜ orderOf r ≡ calls.compareCall (table (now (kinds .entry)) (now (lefts .entry)) (now (rights .entry)) (now (widths .entry)) (now (sizes .entry)) (now (padded .entry)) (now (classes .entry)) count) (record-of (now («a_bytes» .entry)) «a_offset» «a_node») (record-of (now («b_bytes» .entry)) «b_offset» «b_node») ⌝ }
+    ensures { λ r. ⌜ orderOf r ≡ calls.compareCall (table (now (kinds .entry)) (now (lefts .entry)) (now (rights .entry)) (now (groups .entry)) count) (record-of (now («a_bytes» .entry)) «a_offset» «a_node») (record-of (now («b_bytes» .entry)) «b_offset» «b_node») ⌝ }
 {
     let judged = gate::two(
         kinds,
         lefts,
         rights,
-        widths,
-        sizes,
-        padded,
-        classes,
+        groups,
         count,
         a_bytes,
         a_offset,
@@ -110,10 +95,7 @@ pub fn compare(
         kinds,
         lefts,
         rights,
-        widths,
-        sizes,
-        padded,
-        classes,
+        groups,
         count,
         a_bytes,
         a_offset,
@@ -129,43 +111,18 @@ pub fn padded_len(
     kinds: &[u8],
     lefts: &[u16],
     rights: &[u16],
-    widths: &[u64],
-    sizes: &[u64],
-    padded: &[u8],
-    classes: &[u16],
+    groups: &[u8],
     count: usize,
     bytes: &[u8],
     offset: usize,
     node: usize,
 ) -> Count
-    ensures { λ r. ⌜ countOf r ≡ calls.paddedLen (table (now (kinds .entry)) (now (lefts .entry)) (now (rights .entry)) (now (widths .entry)) (now (sizes .entry)) (now (padded .entry)) (now (classes .entry)) count) (record-of (now (bytes .entry)) offset node) ⌝ }
+    ensures { λ r. ⌜ countOf r ≡ calls.paddedLen (table (now (kinds .entry)) (now (lefts .entry)) (now (rights .entry)) (now (groups .entry)) count) (record-of (now (bytes .entry)) offset node) ⌝ }
 {
-    let judged = gate::record(
-        kinds,
-        lefts,
-        rights,
-        widths,
-        sizes,
-        padded,
-        classes,
-        count,
-        bytes,
-        offset,
-        node,
-    );
+    let judged = gate::record(kinds, lefts, rights, groups, count, bytes, offset, node);
     if let Done::Refused(r) = judged {
         return Count::Refused(r);
     }
-    let whole = nodes::node_at(
-        kinds,
-        lefts,
-        rights,
-        widths,
-        sizes,
-        padded,
-        classes,
-        count,
-        node,
-    );
+    let whole = nodes::node_at(kinds, lefts, rights, groups, count, node);
     Count::Is(whole.width as usize)
 }

@@ -34,41 +34,18 @@ fn same_type(
     kinds: &[u8],
     lefts: &[u16],
     rights: &[u16],
-    widths: &[u64],
-    sizes: &[u64],
-    padded: &[u8],
-    classes: &[u16],
+    groups: &[u8],
     count: usize,
     a: usize,
     b: usize,
 ) -> bool
-    requires { ⌜ Sound (table (now kinds) (now lefts) (now rights) (now widths) (now sizes) (now padded) (now classes) count) ⌝ }
+    requires { ⌜ Sound (table (now kinds) (now lefts) (now rights) (now groups) count) ⌝ }
     requires { ⌜ a < count ⌝ }
     requires { ⌜ b < count ⌝ }
-    ensures { λ r. ⌜ r ≡ same (typeAt (table (now (kinds .entry)) (now (lefts .entry)) (now (rights .entry)) (now (widths .entry)) (now (sizes .entry)) (now (padded .entry)) (now (classes .entry)) count) a) (typeAt (table (now (kinds .entry)) (now (lefts .entry)) (now (rights .entry)) (now (widths .entry)) (now (sizes .entry)) (now (padded .entry)) (now (classes .entry)) count) b) ⌝ }
+    ensures { λ r. ⌜ r ≡ same (typeAt (table (now (kinds .entry)) (now (lefts .entry)) (now (rights .entry)) (now (groups .entry)) count) a) (typeAt (table (now (kinds .entry)) (now (lefts .entry)) (now (rights .entry)) (now (groups .entry)) count) b) ⌝ }
 {
-    let one = nodes::node_at(
-        kinds,
-        lefts,
-        rights,
-        widths,
-        sizes,
-        padded,
-        classes,
-        count,
-        a,
-    );
-    let other = nodes::node_at(
-        kinds,
-        lefts,
-        rights,
-        widths,
-        sizes,
-        padded,
-        classes,
-        count,
-        b,
-    );
+    let one = nodes::node_at(kinds, lefts, rights, groups, count, a);
+    let other = nodes::node_at(kinds, lefts, rights, groups, count, b);
     one.class == other.class
 }
 
@@ -77,41 +54,18 @@ pub(crate) fn optional(
     kinds: &[u8],
     lefts: &[u16],
     rights: &[u16],
-    widths: &[u64],
-    sizes: &[u64],
-    padded: &[u8],
-    classes: &[u16],
+    groups: &[u8],
     count: usize,
     result: usize,
 ) -> bool
-    requires { ⌜ Named (table (now kinds) (now lefts) (now rights) (now widths) (now sizes) (now padded) (now classes) count) result ⌝ }
-    ensures { λ r. ⌜ r ≡ optionFits (table (now (kinds .entry)) (now (lefts .entry)) (now (rights .entry)) (now (widths .entry)) (now (sizes .entry)) (now (padded .entry)) (now (classes .entry)) count) result ⌝ }
+    requires { ⌜ Named (table (now kinds) (now lefts) (now rights) (now groups) count) result ⌝ }
+    ensures { λ r. ⌜ r ≡ optionFits (table (now (kinds .entry)) (now (lefts .entry)) (now (rights .entry)) (now (groups .entry)) count) result ⌝ }
 {
-    let whole = nodes::node_at(
-        kinds,
-        lefts,
-        rights,
-        widths,
-        sizes,
-        padded,
-        classes,
-        count,
-        result,
-    );
+    let whole = nodes::node_at(kinds, lefts, rights, groups, count, result);
     if whole.kind != 1 {
         return false;
     }
-    let left = nodes::node_at(
-        kinds,
-        lefts,
-        rights,
-        widths,
-        sizes,
-        padded,
-        classes,
-        count,
-        whole.left,
-    );
+    let left = nodes::node_at(kinds, lefts, rights, groups, count, whole.left);
     left.kind == 0
 }
 
@@ -128,29 +82,16 @@ pub(crate) fn blank(
     kinds: &[u8],
     lefts: &[u16],
     rights: &[u16],
-    widths: &[u64],
-    sizes: &[u64],
-    padded: &[u8],
-    classes: &[u16],
+    groups: &[u8],
     count: usize,
     result: usize,
     out: &mut [u8],
 ) -> Count
-    requires { ⌜ Named (table (now kinds) (now lefts) (now rights) (now widths) (now sizes) (now padded) (now classes) count) result ⌝ }
-    ensures { λ r. ⌜ countOf r ≡ makes [] (zeroBits (table (now (kinds .entry)) (now (lefts .entry)) (now (rights .entry)) (now (widths .entry)) (now (sizes .entry)) (now (padded .entry)) (now (classes .entry)) count) result) (now (out .entry)) ⌝ }
-    ensures { λ _. ⌜ now (out .exit) ≡ made [] (zeroBits (table (now (kinds .entry)) (now (lefts .entry)) (now (rights .entry)) (now (widths .entry)) (now (sizes .entry)) (now (padded .entry)) (now (classes .entry)) count) result) (now (out .entry)) ⌝ }
+    requires { ⌜ Named (table (now kinds) (now lefts) (now rights) (now groups) count) result ⌝ }
+    ensures { λ r. ⌜ countOf r ≡ makes [] (zeroBits (table (now (kinds .entry)) (now (lefts .entry)) (now (rights .entry)) (now (groups .entry)) count) result) (now (out .entry)) ⌝ }
+    ensures { λ _. ⌜ now (out .exit) ≡ made [] (zeroBits (table (now (kinds .entry)) (now (lefts .entry)) (now (rights .entry)) (now (groups .entry)) count) result) (now (out .entry)) ⌝ }
 {
-    let whole = nodes::node_at(
-        kinds,
-        lefts,
-        rights,
-        widths,
-        sizes,
-        padded,
-        classes,
-        count,
-        result,
-    );
+    let whole = nodes::node_at(kinds, lefts, rights, groups, count, result);
     let width = whole.width as usize;
     if out.len() < bytes_for(width) {
         return Count::Refused(Refusal {
@@ -167,10 +108,7 @@ pub(crate) fn wrap(
     kinds: &[u8],
     lefts: &[u16],
     rights: &[u16],
-    widths: &[u64],
-    sizes: &[u64],
-    padded: &[u8],
-    classes: &[u16],
+    groups: &[u8],
     count: usize,
     bytes: &[u8],
     offset: usize,
@@ -179,22 +117,12 @@ pub(crate) fn wrap(
     right: bool,
     out: &mut [u8],
 ) -> Count
-    requires { ⌜ Held (table (now kinds) (now lefts) (now rights) (now widths) (now sizes) (now padded) (now classes) count) (record-of (now bytes) offset node) ⌝ }
-    requires { ⌜ Named (table (now kinds) (now lefts) (now rights) (now widths) (now sizes) (now padded) (now classes) count) result ⌝ }
-    ensures { λ r. ⌜ countOf r ≡ makes (shaped (wrapFits right (table (now (kinds .entry)) (now (lefts .entry)) (now (rights .entry)) (now (widths .entry)) (now (sizes .entry)) (now (padded .entry)) (now (classes .entry)) count) (record-of (now (bytes .entry)) offset node) result)) (wrapBits right (table (now (kinds .entry)) (now (lefts .entry)) (now (rights .entry)) (now (widths .entry)) (now (sizes .entry)) (now (padded .entry)) (now (classes .entry)) count) (record-of (now (bytes .entry)) offset node) result) (now (out .entry)) ⌝ }
-    ensures { λ _. ⌜ now (out .exit) ≡ made (shaped (wrapFits right (table (now (kinds .entry)) (now (lefts .entry)) (now (rights .entry)) (now (widths .entry)) (now (sizes .entry)) (now (padded .entry)) (now (classes .entry)) count) (record-of (now (bytes .entry)) offset node) result)) (wrapBits right (table (now (kinds .entry)) (now (lefts .entry)) (now (rights .entry)) (now (widths .entry)) (now (sizes .entry)) (now (padded .entry)) (now (classes .entry)) count) (record-of (now (bytes .entry)) offset node) result) (now (out .entry)) ⌝ }
+    requires { ⌜ Held (table (now kinds) (now lefts) (now rights) (now groups) count) (record-of (now bytes) offset node) ⌝ }
+    requires { ⌜ Named (table (now kinds) (now lefts) (now rights) (now groups) count) result ⌝ }
+    ensures { λ r. ⌜ countOf r ≡ makes (shaped (wrapFits right (table (now (kinds .entry)) (now (lefts .entry)) (now (rights .entry)) (now (groups .entry)) count) (record-of (now (bytes .entry)) offset node) result)) (wrapBits right (table (now (kinds .entry)) (now (lefts .entry)) (now (rights .entry)) (now (groups .entry)) count) (record-of (now (bytes .entry)) offset node) result) (now (out .entry)) ⌝ }
+    ensures { λ _. ⌜ now (out .exit) ≡ made (shaped (wrapFits right (table (now (kinds .entry)) (now (lefts .entry)) (now (rights .entry)) (now (groups .entry)) count) (record-of (now (bytes .entry)) offset node) result)) (wrapBits right (table (now (kinds .entry)) (now (lefts .entry)) (now (rights .entry)) (now (groups .entry)) count) (record-of (now (bytes .entry)) offset node) result) (now (out .entry)) ⌝ }
 {
-    let whole = nodes::node_at(
-        kinds,
-        lefts,
-        rights,
-        widths,
-        sizes,
-        padded,
-        classes,
-        count,
-        result,
-    );
+    let whole = nodes::node_at(kinds, lefts, rights, groups, count, result);
     if whole.kind != 1 {
         return Count::Refused(Refusal {
             number: 7,
@@ -205,10 +133,7 @@ pub(crate) fn wrap(
         kinds,
         lefts,
         rights,
-        widths,
-        sizes,
-        padded,
-        classes,
+        groups,
         count,
         side_of(whole, right),
         node,
@@ -225,17 +150,7 @@ pub(crate) fn wrap(
             place: 0,
         });
     }
-    let given = nodes::node_at(
-        kinds,
-        lefts,
-        rights,
-        widths,
-        sizes,
-        padded,
-        classes,
-        count,
-        node,
-    );
+    let given = nodes::node_at(kinds, lefts, rights, groups, count, node);
     let first = offset / 8;
     write_sum(
         out,
@@ -253,10 +168,7 @@ pub(crate) fn join(
     kinds: &[u8],
     lefts: &[u16],
     rights: &[u16],
-    widths: &[u64],
-    sizes: &[u64],
-    padded: &[u8],
-    classes: &[u16],
+    groups: &[u8],
     count: usize,
     a_bytes: &[u8],
     a_offset: usize,
@@ -267,58 +179,26 @@ pub(crate) fn join(
     result: usize,
     out: &mut [u8],
 ) -> Count
-    requires { ⌜ Held (table (now kinds) (now lefts) (now rights) (now widths) (now sizes) (now padded) (now classes) count) (record-of (now «a_bytes») «a_offset» «a_node») ⌝ }
-    requires { ⌜ Held (table (now kinds) (now lefts) (now rights) (now widths) (now sizes) (now padded) (now classes) count) (record-of (now «b_bytes») «b_offset» «b_node») ⌝ }
-    requires { ⌜ Named (table (now kinds) (now lefts) (now rights) (now widths) (now sizes) (now padded) (now classes) count) result ⌝ }
-    ensures { λ r. ⌜ countOf r ≡ makes (shaped (joinFits (table (now (kinds .entry)) (now (lefts .entry)) (now (rights .entry)) (now (widths .entry)) (now (sizes .entry)) (now (padded .entry)) (now (classes .entry)) count) (record-of (now («a_bytes» .entry)) «a_offset» «a_node») (record-of (now («b_bytes» .entry)) «b_offset» «b_node») result)) (productBits (table (now (kinds .entry)) (now (lefts .entry)) (now (rights .entry)) (now (widths .entry)) (now (sizes .entry)) (now (padded .entry)) (now (classes .entry)) count) (record-of (now («a_bytes» .entry)) «a_offset» «a_node») (record-of (now («b_bytes» .entry)) «b_offset» «b_node»)) (now (out .entry)) ⌝ }
-    ensures { λ _. ⌜ now (out .exit) ≡ made (shaped (joinFits (table (now (kinds .entry)) (now (lefts .entry)) (now (rights .entry)) (now (widths .entry)) (now (sizes .entry)) (now (padded .entry)) (now (classes .entry)) count) (record-of (now («a_bytes» .entry)) «a_offset» «a_node») (record-of (now («b_bytes» .entry)) «b_offset» «b_node») result)) (productBits (table (now (kinds .entry)) (now (lefts .entry)) (now (rights .entry)) (now (widths .entry)) (now (sizes .entry)) (now (padded .entry)) (now (classes .entry)) count) (record-of (now («a_bytes» .entry)) «a_offset» «a_node») (record-of (now («b_bytes» .entry)) «b_offset» «b_node»)) (now (out .entry)) ⌝ }
+    requires { ⌜ Held (table (now kinds) (now lefts) (now rights) (now groups) count) (record-of (now «a_bytes») «a_offset» «a_node») ⌝ }
+    requires { ⌜ Held (table (now kinds) (now lefts) (now rights) (now groups) count) (record-of (now «b_bytes») «b_offset» «b_node») ⌝ }
+    requires { ⌜ Named (table (now kinds) (now lefts) (now rights) (now groups) count) result ⌝ }
+    ensures { λ r. ⌜ countOf r ≡ makes (shaped (joinFits (table (now (kinds .entry)) (now (lefts .entry)) (now (rights .entry)) (now (groups .entry)) count) (record-of (now («a_bytes» .entry)) «a_offset» «a_node») (record-of (now («b_bytes» .entry)) «b_offset» «b_node») result)) (productBits (table (now (kinds .entry)) (now (lefts .entry)) (now (rights .entry)) (now (groups .entry)) count) (record-of (now («a_bytes» .entry)) «a_offset» «a_node») (record-of (now («b_bytes» .entry)) «b_offset» «b_node»)) (now (out .entry)) ⌝ }
+    ensures { λ _. ⌜ now (out .exit) ≡ made (shaped (joinFits (table (now (kinds .entry)) (now (lefts .entry)) (now (rights .entry)) (now (groups .entry)) count) (record-of (now («a_bytes» .entry)) «a_offset» «a_node») (record-of (now («b_bytes» .entry)) «b_offset» «b_node») result)) (productBits (table (now (kinds .entry)) (now (lefts .entry)) (now (rights .entry)) (now (groups .entry)) count) (record-of (now («a_bytes» .entry)) «a_offset» «a_node») (record-of (now («b_bytes» .entry)) «b_offset» «b_node»)) (now (out .entry)) ⌝ }
 {
-    let whole = nodes::node_at(
-        kinds,
-        lefts,
-        rights,
-        widths,
-        sizes,
-        padded,
-        classes,
-        count,
-        result,
-    );
+    let whole = nodes::node_at(kinds, lefts, rights, groups, count, result);
     if whole.kind != 2 {
         return Count::Refused(Refusal {
             number: 7,
             place: 0,
         });
     }
-    if !same_type(
-        kinds,
-        lefts,
-        rights,
-        widths,
-        sizes,
-        padded,
-        classes,
-        count,
-        whole.left,
-        a_node,
-    ) {
+    if !same_type(kinds, lefts, rights, groups, count, whole.left, a_node) {
         return Count::Refused(Refusal {
             number: 7,
             place: 0,
         });
     }
-    if !same_type(
-        kinds,
-        lefts,
-        rights,
-        widths,
-        sizes,
-        padded,
-        classes,
-        count,
-        whole.right,
-        b_node,
-    ) {
+    if !same_type(kinds, lefts, rights, groups, count, whole.right, b_node) {
         return Count::Refused(Refusal {
             number: 7,
             place: 0,

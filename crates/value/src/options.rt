@@ -18,59 +18,25 @@ pub fn none(
     kinds: &[u8],
     lefts: &[u16],
     rights: &[u16],
-    widths: &[u64],
-    sizes: &[u64],
-    padded: &[u8],
-    classes: &[u16],
+    groups: &[u8],
     count: usize,
     result: usize,
     out: &mut [u8],
 ) -> Count
-    ensures { λ r. ⌜ countOf r ≡ noneCall (table (now (kinds .entry)) (now (lefts .entry)) (now (rights .entry)) (now (widths .entry)) (now (sizes .entry)) (now (padded .entry)) (now (classes .entry)) count) result (now (out .entry)) ⌝ }
-    ensures { λ _. ⌜ now (out .exit) ≡ noneOut (table (now (kinds .entry)) (now (lefts .entry)) (now (rights .entry)) (now (widths .entry)) (now (sizes .entry)) (now (padded .entry)) (now (classes .entry)) count) result (now (out .entry)) ⌝ }
+    ensures { λ r. ⌜ countOf r ≡ noneCall (table (now (kinds .entry)) (now (lefts .entry)) (now (rights .entry)) (now (groups .entry)) count) result (now (out .entry)) ⌝ }
+    ensures { λ _. ⌜ now (out .exit) ≡ noneOut (table (now (kinds .entry)) (now (lefts .entry)) (now (rights .entry)) (now (groups .entry)) count) result (now (out .entry)) ⌝ }
 {
-    let judged = gate::result(
-        kinds,
-        lefts,
-        rights,
-        widths,
-        sizes,
-        padded,
-        classes,
-        count,
-        result,
-    );
+    let judged = gate::result(kinds, lefts, rights, groups, count, result);
     if let Done::Refused(r) = judged {
         return Count::Refused(r);
     }
-    if !optional(
-        kinds,
-        lefts,
-        rights,
-        widths,
-        sizes,
-        padded,
-        classes,
-        count,
-        result,
-    ) {
+    if !optional(kinds, lefts, rights, groups, count, result) {
         return Count::Refused(Refusal {
             number: 7,
             place: 0,
         });
     }
-    blank(
-        kinds,
-        lefts,
-        rights,
-        widths,
-        sizes,
-        padded,
-        classes,
-        count,
-        result,
-        out,
-    )
+    blank(kinds, lefts, rights, groups, count, result, out)
 }
 
 // The right record of a payload, of the sum of unit and the payload's type.
@@ -78,10 +44,7 @@ pub fn some(
     kinds: &[u8],
     lefts: &[u16],
     rights: &[u16],
-    widths: &[u64],
-    sizes: &[u64],
-    padded: &[u8],
-    classes: &[u16],
+    groups: &[u8],
     count: usize,
     bytes: &[u8],
     offset: usize,
@@ -89,17 +52,14 @@ pub fn some(
     result: usize,
     out: &mut [u8],
 ) -> Count
-    ensures { λ r. ⌜ countOf r ≡ someCall (table (now (kinds .entry)) (now (lefts .entry)) (now (rights .entry)) (now (widths .entry)) (now (sizes .entry)) (now (padded .entry)) (now (classes .entry)) count) (record-of (now (bytes .entry)) offset node) result (now (out .entry)) ⌝ }
-    ensures { λ _. ⌜ now (out .exit) ≡ someOut (table (now (kinds .entry)) (now (lefts .entry)) (now (rights .entry)) (now (widths .entry)) (now (sizes .entry)) (now (padded .entry)) (now (classes .entry)) count) (record-of (now (bytes .entry)) offset node) result (now (out .entry)) ⌝ }
+    ensures { λ r. ⌜ countOf r ≡ someCall (table (now (kinds .entry)) (now (lefts .entry)) (now (rights .entry)) (now (groups .entry)) count) (record-of (now (bytes .entry)) offset node) result (now (out .entry)) ⌝ }
+    ensures { λ _. ⌜ now (out .exit) ≡ someOut (table (now (kinds .entry)) (now (lefts .entry)) (now (rights .entry)) (now (groups .entry)) count) (record-of (now (bytes .entry)) offset node) result (now (out .entry)) ⌝ }
 {
     let judged = gate::record_to(
         kinds,
         lefts,
         rights,
-        widths,
-        sizes,
-        padded,
-        classes,
+        groups,
         count,
         bytes,
         offset,
@@ -109,17 +69,7 @@ pub fn some(
     if let Done::Refused(r) = judged {
         return Count::Refused(r);
     }
-    if !optional(
-        kinds,
-        lefts,
-        rights,
-        widths,
-        sizes,
-        padded,
-        classes,
-        count,
-        result,
-    ) {
+    if !optional(kinds, lefts, rights, groups, count, result) {
         return Count::Refused(Refusal {
             number: 7,
             place: 0,
@@ -129,10 +79,7 @@ pub fn some(
         kinds,
         lefts,
         rights,
-        widths,
-        sizes,
-        padded,
-        classes,
+        groups,
         count,
         bytes,
         offset,

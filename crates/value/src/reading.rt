@@ -30,30 +30,17 @@ pub(crate) fn payload(
     kinds: &[u8],
     lefts: &[u16],
     rights: &[u16],
-    widths: &[u64],
-    sizes: &[u64],
-    padded: &[u8],
-    classes: &[u16],
+    groups: &[u8],
     count: usize,
     bytes: &[u8],
     offset: usize,
     node: usize,
     right: bool,
 ) -> Seen
-    requires { ⌜ Held (table (now kinds) (now lefts) (now rights) (now widths) (now sizes) (now padded) (now classes) count) (record-of (now bytes) offset node) ⌝ }
-    ensures { λ r. ⌜ spotOf r ≡ payloadAt right (table (now (kinds .entry)) (now (lefts .entry)) (now (rights .entry)) (now (widths .entry)) (now (sizes .entry)) (now (padded .entry)) (now (classes .entry)) count) (record-of (now (bytes .entry)) offset node) ⌝ }
+    requires { ⌜ Held (table (now kinds) (now lefts) (now rights) (now groups) count) (record-of (now bytes) offset node) ⌝ }
+    ensures { λ r. ⌜ spotOf r ≡ payloadAt right (table (now (kinds .entry)) (now (lefts .entry)) (now (rights .entry)) (now (groups .entry)) count) (record-of (now (bytes .entry)) offset node) ⌝ }
 {
-    let n = nodes::node_at(
-        kinds,
-        lefts,
-        rights,
-        widths,
-        sizes,
-        padded,
-        classes,
-        count,
-        node,
-    );
+    let n = nodes::node_at(kinds, lefts, rights, groups, count, node);
     let width = n.width as usize;
     if TOP - width < offset {
         return Seen::Refused(Refusal {
@@ -92,29 +79,16 @@ pub(crate) fn parts(
     kinds: &[u8],
     lefts: &[u16],
     rights: &[u16],
-    widths: &[u64],
-    sizes: &[u64],
-    padded: &[u8],
-    classes: &[u16],
+    groups: &[u8],
     count: usize,
     bytes: &[u8],
     offset: usize,
     node: usize,
 ) -> Parted
-    requires { ⌜ Held (table (now kinds) (now lefts) (now rights) (now widths) (now sizes) (now padded) (now classes) count) (record-of (now bytes) offset node) ⌝ }
-    ensures { λ r. ⌜ spotsOf r ≡ partsAt (table (now (kinds .entry)) (now (lefts .entry)) (now (rights .entry)) (now (widths .entry)) (now (sizes .entry)) (now (padded .entry)) (now (classes .entry)) count) (record-of (now (bytes .entry)) offset node) ⌝ }
+    requires { ⌜ Held (table (now kinds) (now lefts) (now rights) (now groups) count) (record-of (now bytes) offset node) ⌝ }
+    ensures { λ r. ⌜ spotsOf r ≡ partsAt (table (now (kinds .entry)) (now (lefts .entry)) (now (rights .entry)) (now (groups .entry)) count) (record-of (now (bytes .entry)) offset node) ⌝ }
 {
-    let n = nodes::node_at(
-        kinds,
-        lefts,
-        rights,
-        widths,
-        sizes,
-        padded,
-        classes,
-        count,
-        node,
-    );
+    let n = nodes::node_at(kinds, lefts, rights, groups, count, node);
     let width = n.width as usize;
     if TOP - width < offset {
         return Parted::Refused(Refusal {
@@ -145,10 +119,7 @@ pub(crate) fn alike(
     kinds: &[u8],
     lefts: &[u16],
     rights: &[u16],
-    widths: &[u64],
-    sizes: &[u64],
-    padded: &[u8],
-    classes: &[u16],
+    groups: &[u8],
     count: usize,
     a_bytes: &[u8],
     a_offset: usize,
@@ -157,32 +128,12 @@ pub(crate) fn alike(
     b_offset: usize,
     b_node: usize,
 ) -> bool
-    requires { ⌜ Held (table (now kinds) (now lefts) (now rights) (now widths) (now sizes) (now padded) (now classes) count) (record-of (now «a_bytes») «a_offset» «a_node») ⌝ }
-    requires { ⌜ Held (table (now kinds) (now lefts) (now rights) (now widths) (now sizes) (now padded) (now classes) count) (record-of (now «b_bytes») «b_offset» «b_node») ⌝ }
-    ensures { λ r. ⌜ r ≡ alikeAt (table (now (kinds .entry)) (now (lefts .entry)) (now (rights .entry)) (now (widths .entry)) (now (sizes .entry)) (now (padded .entry)) (now (classes .entry)) count) (record-of (now («a_bytes» .entry)) «a_offset» «a_node») (record-of (now («b_bytes» .entry)) «b_offset» «b_node») ⌝ }
+    requires { ⌜ Held (table (now kinds) (now lefts) (now rights) (now groups) count) (record-of (now «a_bytes») «a_offset» «a_node») ⌝ }
+    requires { ⌜ Held (table (now kinds) (now lefts) (now rights) (now groups) count) (record-of (now «b_bytes») «b_offset» «b_node») ⌝ }
+    ensures { λ r. ⌜ r ≡ alikeAt (table (now (kinds .entry)) (now (lefts .entry)) (now (rights .entry)) (now (groups .entry)) count) (record-of (now («a_bytes» .entry)) «a_offset» «a_node») (record-of (now («b_bytes» .entry)) «b_offset» «b_node») ⌝ }
 {
-    let a = nodes::node_at(
-        kinds,
-        lefts,
-        rights,
-        widths,
-        sizes,
-        padded,
-        classes,
-        count,
-        a_node,
-    );
-    let b = nodes::node_at(
-        kinds,
-        lefts,
-        rights,
-        widths,
-        sizes,
-        padded,
-        classes,
-        count,
-        b_node,
-    );
+    let a = nodes::node_at(kinds, lefts, rights, groups, count, a_node);
+    let b = nodes::node_at(kinds, lefts, rights, groups, count, b_node);
     if a.class != b.class {
         return false;
     }
@@ -202,10 +153,7 @@ pub(crate) fn ordered(
     kinds: &[u8],
     lefts: &[u16],
     rights: &[u16],
-    widths: &[u64],
-    sizes: &[u64],
-    padded: &[u8],
-    classes: &[u16],
+    groups: &[u8],
     count: usize,
     a_bytes: &[u8],
     a_offset: usize,
@@ -214,32 +162,12 @@ pub(crate) fn ordered(
     b_offset: usize,
     b_node: usize,
 ) -> Order
-    requires { ⌜ Held (table (now kinds) (now lefts) (now rights) (now widths) (now sizes) (now padded) (now classes) count) (record-of (now «a_bytes») «a_offset» «a_node») ⌝ }
-    requires { ⌜ Held (table (now kinds) (now lefts) (now rights) (now widths) (now sizes) (now padded) (now classes) count) (record-of (now «b_bytes») «b_offset» «b_node») ⌝ }
-    ensures { λ r. ⌜ order r ≡ orderedAt (table (now (kinds .entry)) (now (lefts .entry)) (now (rights .entry)) (now (widths .entry)) (now (sizes .entry)) (now (padded .entry)) (now (classes .entry)) count) (record-of (now («a_bytes» .entry)) «a_offset» «a_node») (record-of (now («b_bytes» .entry)) «b_offset» «b_node») ⌝ }
+    requires { ⌜ Held (table (now kinds) (now lefts) (now rights) (now groups) count) (record-of (now «a_bytes») «a_offset» «a_node») ⌝ }
+    requires { ⌜ Held (table (now kinds) (now lefts) (now rights) (now groups) count) (record-of (now «b_bytes») «b_offset» «b_node») ⌝ }
+    ensures { λ r. ⌜ order r ≡ orderedAt (table (now (kinds .entry)) (now (lefts .entry)) (now (rights .entry)) (now (groups .entry)) count) (record-of (now («a_bytes» .entry)) «a_offset» «a_node») (record-of (now («b_bytes» .entry)) «b_offset» «b_node») ⌝ }
 {
-    let a = nodes::node_at(
-        kinds,
-        lefts,
-        rights,
-        widths,
-        sizes,
-        padded,
-        classes,
-        count,
-        a_node,
-    );
-    let b = nodes::node_at(
-        kinds,
-        lefts,
-        rights,
-        widths,
-        sizes,
-        padded,
-        classes,
-        count,
-        b_node,
-    );
+    let a = nodes::node_at(kinds, lefts, rights, groups, count, a_node);
+    let b = nodes::node_at(kinds, lefts, rights, groups, count, b_node);
     if a.class < b.class {
         return Order::Less;
     }

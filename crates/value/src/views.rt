@@ -16,30 +16,15 @@ pub fn as_left(
     kinds: &[u8],
     lefts: &[u16],
     rights: &[u16],
-    widths: &[u64],
-    sizes: &[u64],
-    padded: &[u8],
-    classes: &[u16],
+    groups: &[u8],
     count: usize,
     bytes: &[u8],
     offset: usize,
     node: usize,
 ) -> Seen
-    ensures { λ r. ⌜ spotOf r ≡ asLeft (table (now (kinds .entry)) (now (lefts .entry)) (now (rights .entry)) (now (widths .entry)) (now (sizes .entry)) (now (padded .entry)) (now (classes .entry)) count) (record-of (now (bytes .entry)) offset node) ⌝ }
+    ensures { λ r. ⌜ spotOf r ≡ asLeft (table (now (kinds .entry)) (now (lefts .entry)) (now (rights .entry)) (now (groups .entry)) count) (record-of (now (bytes .entry)) offset node) ⌝ }
 {
-    let judged = gate::record(
-        kinds,
-        lefts,
-        rights,
-        widths,
-        sizes,
-        padded,
-        classes,
-        count,
-        bytes,
-        offset,
-        node,
-    );
+    let judged = gate::record(kinds, lefts, rights, groups, count, bytes, offset, node);
     if let Done::Refused(r) = judged {
         return Seen::Refused(r);
     }
@@ -47,10 +32,7 @@ pub fn as_left(
         kinds,
         lefts,
         rights,
-        widths,
-        sizes,
-        padded,
-        classes,
+        groups,
         count,
         bytes,
         offset,
@@ -64,30 +46,15 @@ pub fn as_right(
     kinds: &[u8],
     lefts: &[u16],
     rights: &[u16],
-    widths: &[u64],
-    sizes: &[u64],
-    padded: &[u8],
-    classes: &[u16],
+    groups: &[u8],
     count: usize,
     bytes: &[u8],
     offset: usize,
     node: usize,
 ) -> Seen
-    ensures { λ r. ⌜ spotOf r ≡ asRight (table (now (kinds .entry)) (now (lefts .entry)) (now (rights .entry)) (now (widths .entry)) (now (sizes .entry)) (now (padded .entry)) (now (classes .entry)) count) (record-of (now (bytes .entry)) offset node) ⌝ }
+    ensures { λ r. ⌜ spotOf r ≡ asRight (table (now (kinds .entry)) (now (lefts .entry)) (now (rights .entry)) (now (groups .entry)) count) (record-of (now (bytes .entry)) offset node) ⌝ }
 {
-    let judged = gate::record(
-        kinds,
-        lefts,
-        rights,
-        widths,
-        sizes,
-        padded,
-        classes,
-        count,
-        bytes,
-        offset,
-        node,
-    );
+    let judged = gate::record(kinds, lefts, rights, groups, count, bytes, offset, node);
     if let Done::Refused(r) = judged {
         return Seen::Refused(r);
     }
@@ -95,10 +62,7 @@ pub fn as_right(
         kinds,
         lefts,
         rights,
-        widths,
-        sizes,
-        padded,
-        classes,
+        groups,
         count,
         bytes,
         offset,
@@ -112,44 +76,17 @@ pub fn as_product(
     kinds: &[u8],
     lefts: &[u16],
     rights: &[u16],
-    widths: &[u64],
-    sizes: &[u64],
-    padded: &[u8],
-    classes: &[u16],
+    groups: &[u8],
     count: usize,
     bytes: &[u8],
     offset: usize,
     node: usize,
 ) -> Parted
-    ensures { λ r. ⌜ spotsOf r ≡ asProduct (table (now (kinds .entry)) (now (lefts .entry)) (now (rights .entry)) (now (widths .entry)) (now (sizes .entry)) (now (padded .entry)) (now (classes .entry)) count) (record-of (now (bytes .entry)) offset node) ⌝ }
+    ensures { λ r. ⌜ spotsOf r ≡ asProduct (table (now (kinds .entry)) (now (lefts .entry)) (now (rights .entry)) (now (groups .entry)) count) (record-of (now (bytes .entry)) offset node) ⌝ }
 {
-    let judged = gate::record(
-        kinds,
-        lefts,
-        rights,
-        widths,
-        sizes,
-        padded,
-        classes,
-        count,
-        bytes,
-        offset,
-        node,
-    );
+    let judged = gate::record(kinds, lefts, rights, groups, count, bytes, offset, node);
     if let Done::Refused(r) = judged {
         return Parted::Refused(r);
     }
-    parts(
-        kinds,
-        lefts,
-        rights,
-        widths,
-        sizes,
-        padded,
-        classes,
-        count,
-        bytes,
-        offset,
-        node,
-    )
+    parts(kinds, lefts, rights, groups, count, bytes, offset, node)
 }

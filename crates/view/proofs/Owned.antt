@@ -1,6 +1,7 @@
 -- What a list of types owns, as the parameters of a function or the fields of a struct do.
 --
---   denotsOf valssOf firsts     two lists of types one after the other: their values and machine values; the values of the first
+--   denotsOf valssOf            two lists of types one after the other: their values and machine values
+--   firsts seconds              the values of the first; of the second
 --   joined divided              what they own, each by itself and one after the other
 --   front front-with            the first own what they own, whatever the others become; with something left over
 --   packed                      a struct is put together from what its fields own
@@ -28,6 +29,10 @@ valssOf (T ∷ Ts) Us a b = (a .0, valssOf Ts Us (a .1) b)
 abbrev pub firsts : (Ts Us : List RattleType) → Denots (Ts ++ Us) → Denots Ts
 firsts [] Us a = tt
 firsts (T ∷ Ts) Us a = (a .0, firsts Ts Us (a .1))
+
+abbrev pub seconds : (Ts Us : List RattleType) → Denots (Ts ++ Us) → Denots Us
+seconds [] Us a = a
+seconds (T ∷ Ts) Us a = seconds Ts Us (a .1)
 
 module _ {M : Type 1} (𝓤 : URA M) (H : Heap 𝓤) (A : Atoms 𝓤) where
   -- what two lists of types own is what they own one after the other

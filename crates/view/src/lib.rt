@@ -88,26 +88,13 @@ pub fn is_unit<'a>(
     kinds: &[u8],
     lefts: &[u16],
     rights: &[u16],
-    widths: &[u64],
-    sizes: &[u64],
-    padded: &[u8],
-    classes: &[u16],
+    groups: &[u8],
     count: usize,
     v: View<'a>,
 ) -> Flag
-    ensures { λ r. ⌜ flagOf r ≡ isUnitCall (table (now (kinds .entry)) (now (lefts .entry)) (now (rights .entry)) (now (widths .entry)) (now (sizes .entry)) (now (padded .entry)) (now (classes .entry)) count) (v .entry .node) ⌝ }
+    ensures { λ r. ⌜ flagOf r ≡ isUnitCall (table (now (kinds .entry)) (now (lefts .entry)) (now (rights .entry)) (now (groups .entry)) count) (v .entry .node) ⌝ }
 {
-    table::is_unit(
-        kinds,
-        lefts,
-        rights,
-        widths,
-        sizes,
-        padded,
-        classes,
-        count,
-        v.node,
-    )
+    table::is_unit(kinds, lefts, rights, groups, count, v.node)
 }
 
 // The payload of a left record.
@@ -115,23 +102,17 @@ pub fn as_left<'a>(
     kinds: &[u8],
     lefts: &[u16],
     rights: &[u16],
-    widths: &[u64],
-    sizes: &[u64],
-    padded: &[u8],
-    classes: &[u16],
+    groups: &[u8],
     count: usize,
     v: View<'a>,
 ) -> Sub<'a>
-    ensures { λ r. ⌜ (r .bytes ≡ v .entry .bytes) × (spotOf (r .at) ≡ calls.asLeft (table (now (kinds .entry)) (now (lefts .entry)) (now (rights .entry)) (now (widths .entry)) (now (sizes .entry)) (now (padded .entry)) (now (classes .entry)) count) (record-of (now (v .entry .bytes)) (v .entry .offset) (v .entry .node))) ⌝ }
+    ensures { λ r. ⌜ (r .bytes ≡ v .entry .bytes) × (spotOf (r .at) ≡ calls.asLeft (table (now (kinds .entry)) (now (lefts .entry)) (now (rights .entry)) (now (groups .entry)) count) (record-of (now (v .entry .bytes)) (v .entry .offset) (v .entry .node))) ⌝ }
 {
     let at = value::as_left(
         kinds,
         lefts,
         rights,
-        widths,
-        sizes,
-        padded,
-        classes,
+        groups,
         count,
         v.bytes,
         v.offset,
@@ -145,23 +126,17 @@ pub fn as_right<'a>(
     kinds: &[u8],
     lefts: &[u16],
     rights: &[u16],
-    widths: &[u64],
-    sizes: &[u64],
-    padded: &[u8],
-    classes: &[u16],
+    groups: &[u8],
     count: usize,
     v: View<'a>,
 ) -> Sub<'a>
-    ensures { λ r. ⌜ (r .bytes ≡ v .entry .bytes) × (spotOf (r .at) ≡ calls.asRight (table (now (kinds .entry)) (now (lefts .entry)) (now (rights .entry)) (now (widths .entry)) (now (sizes .entry)) (now (padded .entry)) (now (classes .entry)) count) (record-of (now (v .entry .bytes)) (v .entry .offset) (v .entry .node))) ⌝ }
+    ensures { λ r. ⌜ (r .bytes ≡ v .entry .bytes) × (spotOf (r .at) ≡ calls.asRight (table (now (kinds .entry)) (now (lefts .entry)) (now (rights .entry)) (now (groups .entry)) count) (record-of (now (v .entry .bytes)) (v .entry .offset) (v .entry .node))) ⌝ }
 {
     let at = value::as_right(
         kinds,
         lefts,
         rights,
-        widths,
-        sizes,
-        padded,
-        classes,
+        groups,
         count,
         v.bytes,
         v.offset,
@@ -175,23 +150,17 @@ pub fn as_product<'a>(
     kinds: &[u8],
     lefts: &[u16],
     rights: &[u16],
-    widths: &[u64],
-    sizes: &[u64],
-    padded: &[u8],
-    classes: &[u16],
+    groups: &[u8],
     count: usize,
     v: View<'a>,
 ) -> Subs<'a>
-    ensures { λ r. ⌜ (r .bytes ≡ v .entry .bytes) × (spotsOf (r .at) ≡ calls.asProduct (table (now (kinds .entry)) (now (lefts .entry)) (now (rights .entry)) (now (widths .entry)) (now (sizes .entry)) (now (padded .entry)) (now (classes .entry)) count) (record-of (now (v .entry .bytes)) (v .entry .offset) (v .entry .node))) ⌝ }
+    ensures { λ r. ⌜ (r .bytes ≡ v .entry .bytes) × (spotsOf (r .at) ≡ calls.asProduct (table (now (kinds .entry)) (now (lefts .entry)) (now (rights .entry)) (now (groups .entry)) count) (record-of (now (v .entry .bytes)) (v .entry .offset) (v .entry .node))) ⌝ }
 {
     let at = value::as_product(
         kinds,
         lefts,
         rights,
-        widths,
-        sizes,
-        padded,
-        classes,
+        groups,
         count,
         v.bytes,
         v.offset,
@@ -205,24 +174,18 @@ pub fn equal<'a, 'b>(
     kinds: &[u8],
     lefts: &[u16],
     rights: &[u16],
-    widths: &[u64],
-    sizes: &[u64],
-    padded: &[u8],
-    classes: &[u16],
+    groups: &[u8],
     count: usize,
     a: View<'a>,
     b: View<'b>,
 ) -> Flag
-    ensures { λ r. ⌜ flagOf r ≡ calls.equal (table (now (kinds .entry)) (now (lefts .entry)) (now (rights .entry)) (now (widths .entry)) (now (sizes .entry)) (now (padded .entry)) (now (classes .entry)) count) (record-of (now (a .entry .bytes)) (a .entry .offset) (a .entry .node)) (record-of (now (b .entry .bytes)) (b .entry .offset) (b .entry .node)) ⌝ }
+    ensures { λ r. ⌜ flagOf r ≡ calls.equal (table (now (kinds .entry)) (now (lefts .entry)) (now (rights .entry)) (now (groups .entry)) count) (record-of (now (a .entry .bytes)) (a .entry .offset) (a .entry .node)) (record-of (now (b .entry .bytes)) (b .entry .offset) (b .entry .node)) ⌝ }
 {
     value::equal(
         kinds,
         lefts,
         rights,
-        widths,
-        sizes,
-        padded,
-        classes,
+        groups,
         count,
         a.bytes,
         a.offset,
@@ -238,25 +201,19 @@ pub fn left_spot(
     kinds: &[u8],
     lefts: &[u16],
     rights: &[u16],
-    widths: &[u64],
-    sizes: &[u64],
-    padded: &[u8],
-    classes: &[u16],
+    groups: &[u8],
     count: usize,
     bytes: &[u8],
     offset: usize,
     node: usize,
 ) -> Seen
-    ensures { λ r. ⌜ spotOf r ≡ calls.asLeft (table (now (kinds .entry)) (now (lefts .entry)) (now (rights .entry)) (now (widths .entry)) (now (sizes .entry)) (now (padded .entry)) (now (classes .entry)) count) (record-of (now (bytes .entry)) offset node) ⌝ }
+    ensures { λ r. ⌜ spotOf r ≡ calls.asLeft (table (now (kinds .entry)) (now (lefts .entry)) (now (rights .entry)) (now (groups .entry)) count) (record-of (now (bytes .entry)) offset node) ⌝ }
 {
     as_left(
         kinds,
         lefts,
         rights,
-        widths,
-        sizes,
-        padded,
-        classes,
+        groups,
         count,
         new(bytes, offset, node),
     ).at

@@ -24,7 +24,7 @@ use Rattle.meaning.specs.Types.{bits}
 use Rattle.meaning.specs.Bits.{odd, bitsOf, zeros}
 use Rattle.meaning.specs.Words.{segmentBits, afterSegment, buffer, bufferBits}
 use Rattle.bits.proofs.OfBytes.{length-bitsOf, take-bitsOf}
-use Rattle.bits.proofs.Pasted.{paste-take, paste-append, set-as-paste}
+use Rattle.meaning.proofs.Pasted.{paste-take, paste-append, set-as-paste}
 use Rattle.shapes.proofs.Buffers.{bits-segment, bits-buffer}
 use Rattle.words.specs.Held.{heldBy}
 use Rattle.words.proofs.Pieces.{paste-part}

@@ -11,7 +11,7 @@ use native.Mathlib.Nat.{zero-add, le-refl}
 use native.Mathlib.Omega.{arith}
 use lib.ListN.{length, take, drop, length-append}
 use lib.Seq.{paste, take-take, take-at, drop-at}
-use Rattle.bits.proofs.Pasted.{paste-same, paste-on}
+use Rattle.meaning.proofs.Pasted.{paste-same, paste-on}
 
 module _ {A : Type 0} where
   pub paste-start : (d whole s : List A) (n : ℕ) → take n s ≡ take n whole → paste d 0 s n ≡ paste d 0 whole n

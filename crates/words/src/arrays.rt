@@ -30,27 +30,21 @@ pub fn from_byte_array(
     kinds: &[u8],
     lefts: &[u16],
     rights: &[u16],
-    widths: &[u64],
-    sizes: &[u64],
-    padded: &[u8],
-    classes: &[u16],
+    groups: &[u8],
     count: usize,
     bytes: &[u8],
     result: usize,
     out: &mut [u8],
 ) -> Count
-    ensures { λ r. ⌜ countOf r ≡ arrayCall (table (now (kinds .entry)) (now (lefts .entry)) (now (rights .entry)) (now (widths .entry)) (now (sizes .entry)) (now (padded .entry)) (now (classes .entry)) count) (now (bytes .entry)) result (now (out .entry)) ⌝ }
-    ensures { λ _. ⌜ now (out .exit) ≡ arrayOut (table (now (kinds .entry)) (now (lefts .entry)) (now (rights .entry)) (now (widths .entry)) (now (sizes .entry)) (now (padded .entry)) (now (classes .entry)) count) (now (bytes .entry)) result (now (out .entry)) ⌝ }
+    ensures { λ r. ⌜ countOf r ≡ arrayCall (table (now (kinds .entry)) (now (lefts .entry)) (now (rights .entry)) (now (groups .entry)) count) (now (bytes .entry)) result (now (out .entry)) ⌝ }
+    ensures { λ _. ⌜ now (out .exit) ≡ arrayOut (table (now (kinds .entry)) (now (lefts .entry)) (now (rights .entry)) (now (groups .entry)) count) (now (bytes .entry)) result (now (out .entry)) ⌝ }
 {
     let k = exponent_of(bytes.len());
     bytes_word(
         kinds,
         lefts,
         rights,
-        widths,
-        sizes,
-        padded,
-        classes,
+        groups,
         count,
         3 + k,
         k < NO_ARRAY,

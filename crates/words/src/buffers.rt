@@ -19,30 +19,17 @@ pub fn buffer8_two_n_plus_one(
     kinds: &[u8],
     lefts: &[u16],
     rights: &[u16],
-    widths: &[u64],
-    sizes: &[u64],
-    padded: &[u8],
-    classes: &[u16],
+    groups: &[u8],
     count: usize,
     n: usize,
     data: &[u8],
     result: usize,
     out: &mut [u8],
 ) -> Count
-    ensures { λ r. ⌜ countOf r ≡ bufferCall (table (now (kinds .entry)) (now (lefts .entry)) (now (rights .entry)) (now (widths .entry)) (now (sizes .entry)) (now (padded .entry)) (now (classes .entry)) count) n (now («data» .entry)) result (now (out .entry)) ⌝ }
-    ensures { λ _. ⌜ now (out .exit) ≡ bufferOut (table (now (kinds .entry)) (now (lefts .entry)) (now (rights .entry)) (now (widths .entry)) (now (sizes .entry)) (now (padded .entry)) (now (classes .entry)) count) n (now («data» .entry)) result (now (out .entry)) ⌝ }
+    ensures { λ r. ⌜ countOf r ≡ bufferCall (table (now (kinds .entry)) (now (lefts .entry)) (now (rights .entry)) (now (groups .entry)) count) n (now («data» .entry)) result (now (out .entry)) ⌝ }
+    ensures { λ _. ⌜ now (out .exit) ≡ bufferOut (table (now (kinds .entry)) (now (lefts .entry)) (now (rights .entry)) (now (groups .entry)) count) n (now («data» .entry)) result (now (out .entry)) ⌝ }
 {
-    let judged = gate::node(
-        kinds,
-        lefts,
-        rights,
-        widths,
-        sizes,
-        padded,
-        classes,
-        count,
-        result,
-    );
+    let judged = gate::node(kinds, lefts, rights, groups, count, result);
     if let Done::Refused(r) = judged {
         return Count::Refused(r);
     }
@@ -59,18 +46,7 @@ pub fn buffer8_two_n_plus_one(
             place: 0,
         });
     }
-    if !shapes::is_buffer(
-        kinds,
-        lefts,
-        rights,
-        widths,
-        sizes,
-        padded,
-        classes,
-        count,
-        result,
-        n,
-    ) {
+    if !shapes::is_buffer(kinds, lefts, rights, groups, count, result, n) {
         return Count::Refused(Refusal {
             number: 7,
             place: 0,
@@ -108,29 +84,16 @@ pub fn ctx8(
     kinds: &[u8],
     lefts: &[u16],
     rights: &[u16],
-    widths: &[u64],
-    sizes: &[u64],
-    padded: &[u8],
-    classes: &[u16],
+    groups: &[u8],
     count: usize,
     state: HashState,
     result: usize,
     out: &mut [u8],
 ) -> Count
-    ensures { λ r. ⌜ countOf r ≡ ctx8Call (table (now (kinds .entry)) (now (lefts .entry)) (now (rights .entry)) (now (widths .entry)) (now (sizes .entry)) (now (padded .entry)) (now (classes .entry)) count) (stateOf state) result (now (out .entry)) ⌝ }
-    ensures { λ _. ⌜ now (out .exit) ≡ ctx8Out (table (now (kinds .entry)) (now (lefts .entry)) (now (rights .entry)) (now (widths .entry)) (now (sizes .entry)) (now (padded .entry)) (now (classes .entry)) count) (stateOf state) result (now (out .entry)) ⌝ }
+    ensures { λ r. ⌜ countOf r ≡ ctx8Call (table (now (kinds .entry)) (now (lefts .entry)) (now (rights .entry)) (now (groups .entry)) count) (stateOf state) result (now (out .entry)) ⌝ }
+    ensures { λ _. ⌜ now (out .exit) ≡ ctx8Out (table (now (kinds .entry)) (now (lefts .entry)) (now (rights .entry)) (now (groups .entry)) count) (stateOf state) result (now (out .entry)) ⌝ }
 {
-    let judged = gate::node(
-        kinds,
-        lefts,
-        rights,
-        widths,
-        sizes,
-        padded,
-        classes,
-        count,
-        result,
-    );
+    let judged = gate::node(kinds, lefts, rights, groups, count, result);
     if let Done::Refused(r) = judged {
         return Count::Refused(r);
     }
@@ -141,17 +104,7 @@ pub fn ctx8(
             place: 0,
         });
     }
-    if !shapes::is_ctx8(
-        kinds,
-        lefts,
-        rights,
-        widths,
-        sizes,
-        padded,
-        classes,
-        count,
-        result,
-    ) {
+    if !shapes::is_ctx8(kinds, lefts, rights, groups, count, result) {
         return Count::Refused(Refusal {
             number: 7,
             place: 0,

@@ -20,10 +20,7 @@ pub(crate) fn bytes_word(
     kinds: &[u8],
     lefts: &[u16],
     rights: &[u16],
-    widths: &[u64],
-    sizes: &[u64],
-    padded: &[u8],
-    classes: &[u16],
+    groups: &[u8],
     count: usize,
     n: usize,
     fits: bool,
@@ -32,20 +29,10 @@ pub(crate) fn bytes_word(
     out: &mut [u8],
 ) -> Count
     requires { ⌜ (fits ≡ true → 8 * length (now bytes) ≡ 2 ^ n) ⌝ }
-    ensures { λ r. ⌜ countOf r ≡ makes (fromRange (table (now (kinds .entry)) (now (lefts .entry)) (now (rights .entry)) (now (widths .entry)) (now (sizes .entry)) (now (padded .entry)) (now (classes .entry)) count) result fits (isWord n (typeAt (table (now (kinds .entry)) (now (lefts .entry)) (now (rights .entry)) (now (widths .entry)) (now (sizes .entry)) (now (padded .entry)) (now (classes .entry)) count) result))) (bitsOf (now (bytes .entry))) (now (out .entry)) ⌝ }
-    ensures { λ _. ⌜ now (out .exit) ≡ made (fromRange (table (now (kinds .entry)) (now (lefts .entry)) (now (rights .entry)) (now (widths .entry)) (now (sizes .entry)) (now (padded .entry)) (now (classes .entry)) count) result fits (isWord n (typeAt (table (now (kinds .entry)) (now (lefts .entry)) (now (rights .entry)) (now (widths .entry)) (now (sizes .entry)) (now (padded .entry)) (now (classes .entry)) count) result))) (bitsOf (now (bytes .entry))) (now (out .entry)) ⌝ }
+    ensures { λ r. ⌜ countOf r ≡ makes (fromRange (table (now (kinds .entry)) (now (lefts .entry)) (now (rights .entry)) (now (groups .entry)) count) result fits (isWord n (typeAt (table (now (kinds .entry)) (now (lefts .entry)) (now (rights .entry)) (now (groups .entry)) count) result))) (bitsOf (now (bytes .entry))) (now (out .entry)) ⌝ }
+    ensures { λ _. ⌜ now (out .exit) ≡ made (fromRange (table (now (kinds .entry)) (now (lefts .entry)) (now (rights .entry)) (now (groups .entry)) count) result fits (isWord n (typeAt (table (now (kinds .entry)) (now (lefts .entry)) (now (rights .entry)) (now (groups .entry)) count) result))) (bitsOf (now (bytes .entry))) (now (out .entry)) ⌝ }
 {
-    let judged = gate::node(
-        kinds,
-        lefts,
-        rights,
-        widths,
-        sizes,
-        padded,
-        classes,
-        count,
-        result,
-    );
+    let judged = gate::node(kinds, lefts, rights, groups, count, result);
     if let Done::Refused(r) = judged {
         return Count::Refused(r);
     }
@@ -55,18 +42,7 @@ pub(crate) fn bytes_word(
             place: 0,
         });
     }
-    if !shapes::is_word(
-        kinds,
-        lefts,
-        rights,
-        widths,
-        sizes,
-        padded,
-        classes,
-        count,
-        result,
-        n,
-    ) {
+    if !shapes::is_word(kinds, lefts, rights, groups, count, result, n) {
         return Count::Refused(Refusal {
             number: 7,
             place: 0,
@@ -88,10 +64,7 @@ fn fixed_word(
     kinds: &[u8],
     lefts: &[u16],
     rights: &[u16],
-    widths: &[u64],
-    sizes: &[u64],
-    padded: &[u8],
-    classes: &[u16],
+    groups: &[u8],
     count: usize,
     n: usize,
     bytes: &[u8],
@@ -100,18 +73,15 @@ fn fixed_word(
 ) -> Count
     requires { ⌜ 3 ≤ n ⌝ }
     requires { ⌜ n < 32 ⌝ }
-    ensures { λ r. ⌜ countOf r ≡ bytesCall (table (now (kinds .entry)) (now (lefts .entry)) (now (rights .entry)) (now (widths .entry)) (now (sizes .entry)) (now (padded .entry)) (now (classes .entry)) count) n (now (bytes .entry)) result (now (out .entry)) ⌝ }
-    ensures { λ _. ⌜ now (out .exit) ≡ bytesOut (table (now (kinds .entry)) (now (lefts .entry)) (now (rights .entry)) (now (widths .entry)) (now (sizes .entry)) (now (padded .entry)) (now (classes .entry)) count) n (now (bytes .entry)) result (now (out .entry)) ⌝ }
+    ensures { λ r. ⌜ countOf r ≡ bytesCall (table (now (kinds .entry)) (now (lefts .entry)) (now (rights .entry)) (now (groups .entry)) count) n (now (bytes .entry)) result (now (out .entry)) ⌝ }
+    ensures { λ _. ⌜ now (out .exit) ≡ bytesOut (table (now (kinds .entry)) (now (lefts .entry)) (now (rights .entry)) (now (groups .entry)) count) n (now (bytes .entry)) result (now (out .entry)) ⌝ }
 {
     let asked = shapes::word_width(n - 3) as usize;
     bytes_word(
         kinds,
         lefts,
         rights,
-        widths,
-        sizes,
-        padded,
-        classes,
+        groups,
         count,
         n,
         bytes.len() == asked,
@@ -126,32 +96,16 @@ pub fn u8(
     kinds: &[u8],
     lefts: &[u16],
     rights: &[u16],
-    widths: &[u64],
-    sizes: &[u64],
-    padded: &[u8],
-    classes: &[u16],
+    groups: &[u8],
     count: usize,
     bytes: &[u8],
     result: usize,
     out: &mut [u8],
 ) -> Count
-    ensures { λ r. ⌜ countOf r ≡ bytesCall (table (now (kinds .entry)) (now (lefts .entry)) (now (rights .entry)) (now (widths .entry)) (now (sizes .entry)) (now (padded .entry)) (now (classes .entry)) count) 3 (now (bytes .entry)) result (now (out .entry)) ⌝ }
-    ensures { λ _. ⌜ now (out .exit) ≡ bytesOut (table (now (kinds .entry)) (now (lefts .entry)) (now (rights .entry)) (now (widths .entry)) (now (sizes .entry)) (now (padded .entry)) (now (classes .entry)) count) 3 (now (bytes .entry)) result (now (out .entry)) ⌝ }
+    ensures { λ r. ⌜ countOf r ≡ bytesCall (table (now (kinds .entry)) (now (lefts .entry)) (now (rights .entry)) (now (groups .entry)) count) 3 (now (bytes .entry)) result (now (out .entry)) ⌝ }
+    ensures { λ _. ⌜ now (out .exit) ≡ bytesOut (table (now (kinds .entry)) (now (lefts .entry)) (now (rights .entry)) (now (groups .entry)) count) 3 (now (bytes .entry)) result (now (out .entry)) ⌝ }
 {
-    fixed_word(
-        kinds,
-        lefts,
-        rights,
-        widths,
-        sizes,
-        padded,
-        classes,
-        count,
-        3,
-        bytes,
-        result,
-        out,
-    )
+    fixed_word(kinds, lefts, rights, groups, count, 3, bytes, result, out)
 }
 
 // Two bytes.
@@ -159,32 +113,16 @@ pub fn u16(
     kinds: &[u8],
     lefts: &[u16],
     rights: &[u16],
-    widths: &[u64],
-    sizes: &[u64],
-    padded: &[u8],
-    classes: &[u16],
+    groups: &[u8],
     count: usize,
     bytes: &[u8],
     result: usize,
     out: &mut [u8],
 ) -> Count
-    ensures { λ r. ⌜ countOf r ≡ bytesCall (table (now (kinds .entry)) (now (lefts .entry)) (now (rights .entry)) (now (widths .entry)) (now (sizes .entry)) (now (padded .entry)) (now (classes .entry)) count) 4 (now (bytes .entry)) result (now (out .entry)) ⌝ }
-    ensures { λ _. ⌜ now (out .exit) ≡ bytesOut (table (now (kinds .entry)) (now (lefts .entry)) (now (rights .entry)) (now (widths .entry)) (now (sizes .entry)) (now (padded .entry)) (now (classes .entry)) count) 4 (now (bytes .entry)) result (now (out .entry)) ⌝ }
+    ensures { λ r. ⌜ countOf r ≡ bytesCall (table (now (kinds .entry)) (now (lefts .entry)) (now (rights .entry)) (now (groups .entry)) count) 4 (now (bytes .entry)) result (now (out .entry)) ⌝ }
+    ensures { λ _. ⌜ now (out .exit) ≡ bytesOut (table (now (kinds .entry)) (now (lefts .entry)) (now (rights .entry)) (now (groups .entry)) count) 4 (now (bytes .entry)) result (now (out .entry)) ⌝ }
 {
-    fixed_word(
-        kinds,
-        lefts,
-        rights,
-        widths,
-        sizes,
-        padded,
-        classes,
-        count,
-        4,
-        bytes,
-        result,
-        out,
-    )
+    fixed_word(kinds, lefts, rights, groups, count, 4, bytes, result, out)
 }
 
 // Four bytes.
@@ -192,32 +130,16 @@ pub fn u32(
     kinds: &[u8],
     lefts: &[u16],
     rights: &[u16],
-    widths: &[u64],
-    sizes: &[u64],
-    padded: &[u8],
-    classes: &[u16],
+    groups: &[u8],
     count: usize,
     bytes: &[u8],
     result: usize,
     out: &mut [u8],
 ) -> Count
-    ensures { λ r. ⌜ countOf r ≡ bytesCall (table (now (kinds .entry)) (now (lefts .entry)) (now (rights .entry)) (now (widths .entry)) (now (sizes .entry)) (now (padded .entry)) (now (classes .entry)) count) 5 (now (bytes .entry)) result (now (out .entry)) ⌝ }
-    ensures { λ _. ⌜ now (out .exit) ≡ bytesOut (table (now (kinds .entry)) (now (lefts .entry)) (now (rights .entry)) (now (widths .entry)) (now (sizes .entry)) (now (padded .entry)) (now (classes .entry)) count) 5 (now (bytes .entry)) result (now (out .entry)) ⌝ }
+    ensures { λ r. ⌜ countOf r ≡ bytesCall (table (now (kinds .entry)) (now (lefts .entry)) (now (rights .entry)) (now (groups .entry)) count) 5 (now (bytes .entry)) result (now (out .entry)) ⌝ }
+    ensures { λ _. ⌜ now (out .exit) ≡ bytesOut (table (now (kinds .entry)) (now (lefts .entry)) (now (rights .entry)) (now (groups .entry)) count) 5 (now (bytes .entry)) result (now (out .entry)) ⌝ }
 {
-    fixed_word(
-        kinds,
-        lefts,
-        rights,
-        widths,
-        sizes,
-        padded,
-        classes,
-        count,
-        5,
-        bytes,
-        result,
-        out,
-    )
+    fixed_word(kinds, lefts, rights, groups, count, 5, bytes, result, out)
 }
 
 // Eight bytes.
@@ -225,32 +147,16 @@ pub fn u64(
     kinds: &[u8],
     lefts: &[u16],
     rights: &[u16],
-    widths: &[u64],
-    sizes: &[u64],
-    padded: &[u8],
-    classes: &[u16],
+    groups: &[u8],
     count: usize,
     bytes: &[u8],
     result: usize,
     out: &mut [u8],
 ) -> Count
-    ensures { λ r. ⌜ countOf r ≡ bytesCall (table (now (kinds .entry)) (now (lefts .entry)) (now (rights .entry)) (now (widths .entry)) (now (sizes .entry)) (now (padded .entry)) (now (classes .entry)) count) 6 (now (bytes .entry)) result (now (out .entry)) ⌝ }
-    ensures { λ _. ⌜ now (out .exit) ≡ bytesOut (table (now (kinds .entry)) (now (lefts .entry)) (now (rights .entry)) (now (widths .entry)) (now (sizes .entry)) (now (padded .entry)) (now (classes .entry)) count) 6 (now (bytes .entry)) result (now (out .entry)) ⌝ }
+    ensures { λ r. ⌜ countOf r ≡ bytesCall (table (now (kinds .entry)) (now (lefts .entry)) (now (rights .entry)) (now (groups .entry)) count) 6 (now (bytes .entry)) result (now (out .entry)) ⌝ }
+    ensures { λ _. ⌜ now (out .exit) ≡ bytesOut (table (now (kinds .entry)) (now (lefts .entry)) (now (rights .entry)) (now (groups .entry)) count) 6 (now (bytes .entry)) result (now (out .entry)) ⌝ }
 {
-    fixed_word(
-        kinds,
-        lefts,
-        rights,
-        widths,
-        sizes,
-        padded,
-        classes,
-        count,
-        6,
-        bytes,
-        result,
-        out,
-    )
+    fixed_word(kinds, lefts, rights, groups, count, 6, bytes, result, out)
 }
 
 // Sixteen bytes.
@@ -258,32 +164,16 @@ pub fn u128(
     kinds: &[u8],
     lefts: &[u16],
     rights: &[u16],
-    widths: &[u64],
-    sizes: &[u64],
-    padded: &[u8],
-    classes: &[u16],
+    groups: &[u8],
     count: usize,
     bytes: &[u8],
     result: usize,
     out: &mut [u8],
 ) -> Count
-    ensures { λ r. ⌜ countOf r ≡ bytesCall (table (now (kinds .entry)) (now (lefts .entry)) (now (rights .entry)) (now (widths .entry)) (now (sizes .entry)) (now (padded .entry)) (now (classes .entry)) count) 7 (now (bytes .entry)) result (now (out .entry)) ⌝ }
-    ensures { λ _. ⌜ now (out .exit) ≡ bytesOut (table (now (kinds .entry)) (now (lefts .entry)) (now (rights .entry)) (now (widths .entry)) (now (sizes .entry)) (now (padded .entry)) (now (classes .entry)) count) 7 (now (bytes .entry)) result (now (out .entry)) ⌝ }
+    ensures { λ r. ⌜ countOf r ≡ bytesCall (table (now (kinds .entry)) (now (lefts .entry)) (now (rights .entry)) (now (groups .entry)) count) 7 (now (bytes .entry)) result (now (out .entry)) ⌝ }
+    ensures { λ _. ⌜ now (out .exit) ≡ bytesOut (table (now (kinds .entry)) (now (lefts .entry)) (now (rights .entry)) (now (groups .entry)) count) 7 (now (bytes .entry)) result (now (out .entry)) ⌝ }
 {
-    fixed_word(
-        kinds,
-        lefts,
-        rights,
-        widths,
-        sizes,
-        padded,
-        classes,
-        count,
-        7,
-        bytes,
-        result,
-        out,
-    )
+    fixed_word(kinds, lefts, rights, groups, count, 7, bytes, result, out)
 }
 
 // Thirty-two bytes.
@@ -291,32 +181,16 @@ pub fn u256(
     kinds: &[u8],
     lefts: &[u16],
     rights: &[u16],
-    widths: &[u64],
-    sizes: &[u64],
-    padded: &[u8],
-    classes: &[u16],
+    groups: &[u8],
     count: usize,
     bytes: &[u8],
     result: usize,
     out: &mut [u8],
 ) -> Count
-    ensures { λ r. ⌜ countOf r ≡ bytesCall (table (now (kinds .entry)) (now (lefts .entry)) (now (rights .entry)) (now (widths .entry)) (now (sizes .entry)) (now (padded .entry)) (now (classes .entry)) count) 8 (now (bytes .entry)) result (now (out .entry)) ⌝ }
-    ensures { λ _. ⌜ now (out .exit) ≡ bytesOut (table (now (kinds .entry)) (now (lefts .entry)) (now (rights .entry)) (now (widths .entry)) (now (sizes .entry)) (now (padded .entry)) (now (classes .entry)) count) 8 (now (bytes .entry)) result (now (out .entry)) ⌝ }
+    ensures { λ r. ⌜ countOf r ≡ bytesCall (table (now (kinds .entry)) (now (lefts .entry)) (now (rights .entry)) (now (groups .entry)) count) 8 (now (bytes .entry)) result (now (out .entry)) ⌝ }
+    ensures { λ _. ⌜ now (out .exit) ≡ bytesOut (table (now (kinds .entry)) (now (lefts .entry)) (now (rights .entry)) (now (groups .entry)) count) 8 (now (bytes .entry)) result (now (out .entry)) ⌝ }
 {
-    fixed_word(
-        kinds,
-        lefts,
-        rights,
-        widths,
-        sizes,
-        padded,
-        classes,
-        count,
-        8,
-        bytes,
-        result,
-        out,
-    )
+    fixed_word(kinds, lefts, rights, groups, count, 8, bytes, result, out)
 }
 
 // Sixty-four bytes.
@@ -324,30 +198,14 @@ pub fn u512(
     kinds: &[u8],
     lefts: &[u16],
     rights: &[u16],
-    widths: &[u64],
-    sizes: &[u64],
-    padded: &[u8],
-    classes: &[u16],
+    groups: &[u8],
     count: usize,
     bytes: &[u8],
     result: usize,
     out: &mut [u8],
 ) -> Count
-    ensures { λ r. ⌜ countOf r ≡ bytesCall (table (now (kinds .entry)) (now (lefts .entry)) (now (rights .entry)) (now (widths .entry)) (now (sizes .entry)) (now (padded .entry)) (now (classes .entry)) count) 9 (now (bytes .entry)) result (now (out .entry)) ⌝ }
-    ensures { λ _. ⌜ now (out .exit) ≡ bytesOut (table (now (kinds .entry)) (now (lefts .entry)) (now (rights .entry)) (now (widths .entry)) (now (sizes .entry)) (now (padded .entry)) (now (classes .entry)) count) 9 (now (bytes .entry)) result (now (out .entry)) ⌝ }
+    ensures { λ r. ⌜ countOf r ≡ bytesCall (table (now (kinds .entry)) (now (lefts .entry)) (now (rights .entry)) (now (groups .entry)) count) 9 (now (bytes .entry)) result (now (out .entry)) ⌝ }
+    ensures { λ _. ⌜ now (out .exit) ≡ bytesOut (table (now (kinds .entry)) (now (lefts .entry)) (now (rights .entry)) (now (groups .entry)) count) 9 (now (bytes .entry)) result (now (out .entry)) ⌝ }
 {
-    fixed_word(
-        kinds,
-        lefts,
-        rights,
-        widths,
-        sizes,
-        padded,
-        classes,
-        count,
-        9,
-        bytes,
-        result,
-        out,
-    )
+    fixed_word(kinds, lefts, rights, groups, count, 9, bytes, result, out)
 }

@@ -15,10 +15,7 @@ pub fn word_product(
     kinds: &[u8],
     lefts: &[u16],
     rights: &[u16],
-    widths: &[u64],
-    sizes: &[u64],
-    padded: &[u8],
-    classes: &[u16],
+    groups: &[u8],
     count: usize,
     a_bytes: &[u8],
     a_offset: usize,
@@ -29,17 +26,14 @@ pub fn word_product(
     result: usize,
     out: &mut [u8],
 ) -> Count
-    ensures { λ r. ⌜ countOf r ≡ joinCall (table (now (kinds .entry)) (now (lefts .entry)) (now (rights .entry)) (now (widths .entry)) (now (sizes .entry)) (now (padded .entry)) (now (classes .entry)) count) (record-of (now («a_bytes» .entry)) «a_offset» «a_node») (record-of (now («b_bytes» .entry)) «b_offset» «b_node») result (now (out .entry)) ⌝ }
-    ensures { λ _. ⌜ now (out .exit) ≡ joinOut (table (now (kinds .entry)) (now (lefts .entry)) (now (rights .entry)) (now (widths .entry)) (now (sizes .entry)) (now (padded .entry)) (now (classes .entry)) count) (record-of (now («a_bytes» .entry)) «a_offset» «a_node») (record-of (now («b_bytes» .entry)) «b_offset» «b_node») result (now (out .entry)) ⌝ }
+    ensures { λ r. ⌜ countOf r ≡ joinCall (table (now (kinds .entry)) (now (lefts .entry)) (now (rights .entry)) (now (groups .entry)) count) (record-of (now («a_bytes» .entry)) «a_offset» «a_node») (record-of (now («b_bytes» .entry)) «b_offset» «b_node») result (now (out .entry)) ⌝ }
+    ensures { λ _. ⌜ now (out .exit) ≡ joinOut (table (now (kinds .entry)) (now (lefts .entry)) (now (rights .entry)) (now (groups .entry)) count) (record-of (now («a_bytes» .entry)) «a_offset» «a_node») (record-of (now («b_bytes» .entry)) «b_offset» «b_node») result (now (out .entry)) ⌝ }
 {
     let judged = gate::two_to(
         kinds,
         lefts,
         rights,
-        widths,
-        sizes,
-        padded,
-        classes,
+        groups,
         count,
         a_bytes,
         a_offset,
@@ -52,52 +46,20 @@ pub fn word_product(
     if let Done::Refused(r) = judged {
         return Count::Refused(r);
     }
-    let n = shapes::word_of(
-        kinds,
-        lefts,
-        rights,
-        widths,
-        sizes,
-        padded,
-        classes,
-        count,
-        a_node,
-    );
+    let n = shapes::word_of(kinds, lefts, rights, groups, count, a_node);
     if 31 <= n {
         return Count::Refused(Refusal {
             number: 7,
             place: 0,
         });
     }
-    if !shapes::is_word(
-        kinds,
-        lefts,
-        rights,
-        widths,
-        sizes,
-        padded,
-        classes,
-        count,
-        b_node,
-        n,
-    ) {
+    if !shapes::is_word(kinds, lefts, rights, groups, count, b_node, n) {
         return Count::Refused(Refusal {
             number: 7,
             place: 0,
         });
     }
-    if !shapes::is_word(
-        kinds,
-        lefts,
-        rights,
-        widths,
-        sizes,
-        padded,
-        classes,
-        count,
-        result,
-        n + 1,
-    ) {
+    if !shapes::is_word(kinds, lefts, rights, groups, count, result, n + 1) {
         return Count::Refused(Refusal {
             number: 7,
             place: 0,
@@ -128,10 +90,7 @@ pub fn word_from_bits(
     kinds: &[u8],
     lefts: &[u16],
     rights: &[u16],
-    widths: &[u64],
-    sizes: &[u64],
-    padded: &[u8],
-    classes: &[u16],
+    groups: &[u8],
     count: usize,
     bytes: &[u8],
     length: usize,
@@ -140,17 +99,14 @@ pub fn word_from_bits(
     node: usize,
     out: &mut [u8],
 ) -> Count
-    ensures { λ r. ⌜ countOf r ≡ wordReadCall (table (now (kinds .entry)) (now (lefts .entry)) (now (rights .entry)) (now (widths .entry)) (now (sizes .entry)) (now (padded .entry)) (now (classes .entry)) count) (stream-of (now (bytes .entry)) length position) n node (now (out .entry)) ⌝ }
-    ensures { λ _. ⌜ now (out .exit) ≡ wordReadOut (table (now (kinds .entry)) (now (lefts .entry)) (now (rights .entry)) (now (widths .entry)) (now (sizes .entry)) (now (padded .entry)) (now (classes .entry)) count) (stream-of (now (bytes .entry)) length position) n node (now (out .entry)) ⌝ }
+    ensures { λ r. ⌜ countOf r ≡ wordReadCall (table (now (kinds .entry)) (now (lefts .entry)) (now (rights .entry)) (now (groups .entry)) count) (stream-of (now (bytes .entry)) length position) n node (now (out .entry)) ⌝ }
+    ensures { λ _. ⌜ now (out .exit) ≡ wordReadOut (table (now (kinds .entry)) (now (lefts .entry)) (now (rights .entry)) (now (groups .entry)) count) (stream-of (now (bytes .entry)) length position) n node (now (out .entry)) ⌝ }
 {
     let judged = gate::stream(
         kinds,
         lefts,
         rights,
-        widths,
-        sizes,
-        padded,
-        classes,
+        groups,
         count,
         bytes,
         length,
@@ -166,18 +122,7 @@ pub fn word_from_bits(
             place: 0,
         });
     }
-    if !shapes::is_word(
-        kinds,
-        lefts,
-        rights,
-        widths,
-        sizes,
-        padded,
-        classes,
-        count,
-        node,
-        n,
-    ) {
+    if !shapes::is_word(kinds, lefts, rights, groups, count, node, n) {
         return Count::Refused(Refusal {
             number: 7,
             place: 0,

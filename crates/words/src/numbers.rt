@@ -15,10 +15,7 @@ fn number_word(
     kinds: &[u8],
     lefts: &[u16],
     rights: &[u16],
-    widths: &[u64],
-    sizes: &[u64],
-    padded: &[u8],
-    classes: &[u16],
+    groups: &[u8],
     count: usize,
     n: usize,
     number: u64,
@@ -26,20 +23,10 @@ fn number_word(
     out: &mut [u8],
 ) -> Count
     requires { ⌜ n < 3 ⌝ }
-    ensures { λ r. ⌜ countOf r ≡ numberCall (table (now (kinds .entry)) (now (lefts .entry)) (now (rights .entry)) (now (widths .entry)) (now (sizes .entry)) (now (padded .entry)) (now (classes .entry)) count) n number result (now (out .entry)) ⌝ }
-    ensures { λ _. ⌜ now (out .exit) ≡ numberOut (table (now (kinds .entry)) (now (lefts .entry)) (now (rights .entry)) (now (widths .entry)) (now (sizes .entry)) (now (padded .entry)) (now (classes .entry)) count) n number result (now (out .entry)) ⌝ }
+    ensures { λ r. ⌜ countOf r ≡ numberCall (table (now (kinds .entry)) (now (lefts .entry)) (now (rights .entry)) (now (groups .entry)) count) n number result (now (out .entry)) ⌝ }
+    ensures { λ _. ⌜ now (out .exit) ≡ numberOut (table (now (kinds .entry)) (now (lefts .entry)) (now (rights .entry)) (now (groups .entry)) count) n number result (now (out .entry)) ⌝ }
 {
-    let judged = gate::node(
-        kinds,
-        lefts,
-        rights,
-        widths,
-        sizes,
-        padded,
-        classes,
-        count,
-        result,
-    );
+    let judged = gate::node(kinds, lefts, rights, groups, count, result);
     if let Done::Refused(r) = judged {
         return Count::Refused(r);
     }
@@ -50,18 +37,7 @@ fn number_word(
             place: 0,
         });
     }
-    if !shapes::is_word(
-        kinds,
-        lefts,
-        rights,
-        widths,
-        sizes,
-        padded,
-        classes,
-        count,
-        result,
-        n,
-    ) {
+    if !shapes::is_word(kinds, lefts, rights, groups, count, result, n) {
         return Count::Refused(Refusal {
             number: 7,
             place: 0,
@@ -82,32 +58,16 @@ pub fn u1(
     kinds: &[u8],
     lefts: &[u16],
     rights: &[u16],
-    widths: &[u64],
-    sizes: &[u64],
-    padded: &[u8],
-    classes: &[u16],
+    groups: &[u8],
     count: usize,
     number: u64,
     result: usize,
     out: &mut [u8],
 ) -> Count
-    ensures { λ r. ⌜ countOf r ≡ numberCall (table (now (kinds .entry)) (now (lefts .entry)) (now (rights .entry)) (now (widths .entry)) (now (sizes .entry)) (now (padded .entry)) (now (classes .entry)) count) 0 number result (now (out .entry)) ⌝ }
-    ensures { λ _. ⌜ now (out .exit) ≡ numberOut (table (now (kinds .entry)) (now (lefts .entry)) (now (rights .entry)) (now (widths .entry)) (now (sizes .entry)) (now (padded .entry)) (now (classes .entry)) count) 0 number result (now (out .entry)) ⌝ }
+    ensures { λ r. ⌜ countOf r ≡ numberCall (table (now (kinds .entry)) (now (lefts .entry)) (now (rights .entry)) (now (groups .entry)) count) 0 number result (now (out .entry)) ⌝ }
+    ensures { λ _. ⌜ now (out .exit) ≡ numberOut (table (now (kinds .entry)) (now (lefts .entry)) (now (rights .entry)) (now (groups .entry)) count) 0 number result (now (out .entry)) ⌝ }
 {
-    number_word(
-        kinds,
-        lefts,
-        rights,
-        widths,
-        sizes,
-        padded,
-        classes,
-        count,
-        0,
-        number,
-        result,
-        out,
-    )
+    number_word(kinds, lefts, rights, groups, count, 0, number, result, out)
 }
 
 // Two bits: a number of 0 to 3.
@@ -115,32 +75,16 @@ pub fn u2(
     kinds: &[u8],
     lefts: &[u16],
     rights: &[u16],
-    widths: &[u64],
-    sizes: &[u64],
-    padded: &[u8],
-    classes: &[u16],
+    groups: &[u8],
     count: usize,
     number: u64,
     result: usize,
     out: &mut [u8],
 ) -> Count
-    ensures { λ r. ⌜ countOf r ≡ numberCall (table (now (kinds .entry)) (now (lefts .entry)) (now (rights .entry)) (now (widths .entry)) (now (sizes .entry)) (now (padded .entry)) (now (classes .entry)) count) 1 number result (now (out .entry)) ⌝ }
-    ensures { λ _. ⌜ now (out .exit) ≡ numberOut (table (now (kinds .entry)) (now (lefts .entry)) (now (rights .entry)) (now (widths .entry)) (now (sizes .entry)) (now (padded .entry)) (now (classes .entry)) count) 1 number result (now (out .entry)) ⌝ }
+    ensures { λ r. ⌜ countOf r ≡ numberCall (table (now (kinds .entry)) (now (lefts .entry)) (now (rights .entry)) (now (groups .entry)) count) 1 number result (now (out .entry)) ⌝ }
+    ensures { λ _. ⌜ now (out .exit) ≡ numberOut (table (now (kinds .entry)) (now (lefts .entry)) (now (rights .entry)) (now (groups .entry)) count) 1 number result (now (out .entry)) ⌝ }
 {
-    number_word(
-        kinds,
-        lefts,
-        rights,
-        widths,
-        sizes,
-        padded,
-        classes,
-        count,
-        1,
-        number,
-        result,
-        out,
-    )
+    number_word(kinds, lefts, rights, groups, count, 1, number, result, out)
 }
 
 // Four bits: a number of 0 to 15.
@@ -148,30 +92,14 @@ pub fn u4(
     kinds: &[u8],
     lefts: &[u16],
     rights: &[u16],
-    widths: &[u64],
-    sizes: &[u64],
-    padded: &[u8],
-    classes: &[u16],
+    groups: &[u8],
     count: usize,
     number: u64,
     result: usize,
     out: &mut [u8],
 ) -> Count
-    ensures { λ r. ⌜ countOf r ≡ numberCall (table (now (kinds .entry)) (now (lefts .entry)) (now (rights .entry)) (now (widths .entry)) (now (sizes .entry)) (now (padded .entry)) (now (classes .entry)) count) 2 number result (now (out .entry)) ⌝ }
-    ensures { λ _. ⌜ now (out .exit) ≡ numberOut (table (now (kinds .entry)) (now (lefts .entry)) (now (rights .entry)) (now (widths .entry)) (now (sizes .entry)) (now (padded .entry)) (now (classes .entry)) count) 2 number result (now (out .entry)) ⌝ }
+    ensures { λ r. ⌜ countOf r ≡ numberCall (table (now (kinds .entry)) (now (lefts .entry)) (now (rights .entry)) (now (groups .entry)) count) 2 number result (now (out .entry)) ⌝ }
+    ensures { λ _. ⌜ now (out .exit) ≡ numberOut (table (now (kinds .entry)) (now (lefts .entry)) (now (rights .entry)) (now (groups .entry)) count) 2 number result (now (out .entry)) ⌝ }
 {
-    number_word(
-        kinds,
-        lefts,
-        rights,
-        widths,
-        sizes,
-        padded,
-        classes,
-        count,
-        2,
-        number,
-        result,
-        out,
-    )
+    number_word(kinds, lefts, rights, groups, count, 2, number, result, out)
 }

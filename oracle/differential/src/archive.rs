@@ -3,6 +3,9 @@
 use oracle::library::{Answer, Call, Library, Record, Request};
 use quelomavunt::raw;
 
+// Both sides lay groups of the same size.
+const _: () = assert!(oracle::library::GROUP_BYTES == raw::GROUP_BYTES);
+
 /// The archive that this program is linked with.
 pub struct Archive;
 
@@ -17,10 +20,7 @@ impl Library for Archive {
             kinds: q.table.kinds,
             lefts: q.table.lefts,
             rights: q.table.rights,
-            widths: q.table.widths,
-            sizes: q.table.sizes,
-            padded: q.table.padded,
-            classes: q.table.classes,
+            groups: q.table.groups,
             count: q.table.count,
         };
         let (t, a, b) = (&t, &record(&q.a), &record(&q.b));
@@ -32,12 +32,6 @@ impl Library for Archive {
             _ => (values, &mut no_value),
         };
         let (out, position) = (&mut answer.out[..], &mut answer.position);
-        let facts = raw::FactsMut {
-            widths: &mut columns.widths,
-            sizes: &mut columns.sizes,
-            padded: &mut columns.padded,
-            classes: &mut columns.classes,
-        };
         let (bytes, length) = (q.stream.bytes, q.stream.length);
         answer.code = match q.call {
             Call::ReadTable => {
@@ -45,11 +39,11 @@ impl Library for Archive {
                     kinds: &mut columns.kinds,
                     lefts: &mut columns.lefts,
                     rights: &mut columns.rights,
-                    facts,
+                    groups: &mut columns.groups,
                 };
                 raw::read_table(q.data, columns, one)
             }
-            Call::FillFacts => raw::fill_facts(t.kinds, t.lefts, t.rights, t.count, facts),
+            Call::FillFacts => raw::fill_facts(t.kinds, t.lefts, t.rights, t.count, &mut columns.groups),
             Call::CheckTable => raw::check_table(t),
             Call::FactsOf => raw::facts_of(t, q.node, many),
             Call::SameType => raw::same_type(t, q.node, q.other, one),

@@ -1,6 +1,6 @@
 //! Asks one request of everybody and keeps the count.
 //!
-//! * the archive against the model: result, accepted values, position, output bytes and columns, all of them
+//! * the archive against the model: result, accepted values, position, output bytes, columns and groups, all of them
 //! * the crate's text against the model, where the text has an answer
 //!
 //! What counts as agreement, and which differences are listed, is `oracle::agreement`'s to say.

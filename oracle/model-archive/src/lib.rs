@@ -43,13 +43,10 @@ macro_rules! exports {
     (@ $s:ident $c:ident $q:ident $a:ident [$($p:tt)*] [$($set:tt)*] [$($back:tt)*] table $(, $($rest:tt)*)?) => {
         exports!(@ $s $c $q $a
             [$($p)* kinds: *const u8, kinds_len: usize, lefts: *const u16, lefts_len: usize, rights: *const u16,
-             rights_len: usize, widths: *const u64, widths_len: usize, sizes: *const u64, sizes_len: usize,
-             padded: *const u8, padded_len: usize, classes: *const u16, classes_len: usize, count: u64,]
+             rights_len: usize, groups: *const u8, groups_len: usize, count: u64,]
             [$($set)* $q.table = Columns {
                 kinds: from_raw_parts(kinds, kinds_len), lefts: from_raw_parts(lefts, lefts_len),
-                rights: from_raw_parts(rights, rights_len), widths: from_raw_parts(widths, widths_len),
-                sizes: from_raw_parts(sizes, sizes_len), padded: from_raw_parts(padded, padded_len),
-                classes: from_raw_parts(classes, classes_len), count };]
+                rights: from_raw_parts(rights, rights_len), groups: from_raw_parts(groups, groups_len), count };]
             [$($back)*] $($($rest)*)?);
     };
     (@ $s:ident $c:ident $q:ident $a:ident [$($p:tt)*] [$($set:tt)*] [$($back:tt)*] entries $(, $($rest:tt)*)?) => {
@@ -71,20 +68,13 @@ macro_rules! exports {
             [$($back)* from_raw_parts_mut(kinds, kinds_len).copy_from_slice(&$a.columns.kinds);
              from_raw_parts_mut(lefts, lefts_len).copy_from_slice(&$a.columns.lefts);
              from_raw_parts_mut(rights, rights_len).copy_from_slice(&$a.columns.rights);]
-            facts $(, $($rest)*)?);
+            groups $(, $($rest)*)?);
     };
-    (@ $s:ident $c:ident $q:ident $a:ident [$($p:tt)*] [$($set:tt)*] [$($back:tt)*] facts $(, $($rest:tt)*)?) => {
+    (@ $s:ident $c:ident $q:ident $a:ident [$($p:tt)*] [$($set:tt)*] [$($back:tt)*] groups $(, $($rest:tt)*)?) => {
         exports!(@ $s $c $q $a
-            [$($p)* widths: *mut u64, widths_len: usize, sizes: *mut u64, sizes_len: usize, padded: *mut u8,
-             padded_len: usize, classes: *mut u16, classes_len: usize,]
-            [$($set)* $q.table.widths = from_raw_parts(widths, widths_len);
-             $q.table.sizes = from_raw_parts(sizes, sizes_len);
-             $q.table.padded = from_raw_parts(padded, padded_len);
-             $q.table.classes = from_raw_parts(classes, classes_len);]
-            [$($back)* from_raw_parts_mut(widths, widths_len).copy_from_slice(&$a.columns.widths);
-             from_raw_parts_mut(sizes, sizes_len).copy_from_slice(&$a.columns.sizes);
-             from_raw_parts_mut(padded, padded_len).copy_from_slice(&$a.columns.padded);
-             from_raw_parts_mut(classes, classes_len).copy_from_slice(&$a.columns.classes);]
+            [$($p)* groups: *mut u8, groups_len: usize,]
+            [$($set)* $q.table.groups = from_raw_parts(groups, groups_len);]
+            [$($back)* from_raw_parts_mut(groups, groups_len).copy_from_slice(&$a.columns.groups);]
             $($($rest)*)?);
     };
     (@ $s:ident $c:ident $q:ident $a:ident [$($p:tt)*] [$($set:tt)*] [$($back:tt)*] record $r:ident $(, $($rest:tt)*)?) => {
@@ -141,7 +131,7 @@ macro_rules! exports {
 
 exports! {
     fn qv_read_table = ReadTable(bytes data, columns, value);
-    fn qv_fill_facts = FillFacts(entries, facts);
+    fn qv_fill_facts = FillFacts(entries, groups);
     fn qv_check_table = CheckTable(table);
     fn qv_facts_of = FactsOf(table, number node, values);
     fn qv_same_type = SameType(table, number node, number other, value);

@@ -37,7 +37,7 @@
 //!
 //! Of `read_table` and `fill_facts` (which is about the entries of the table at hand) the expected `out` is, for an
 //! accepted call, the nodes one after the other, 24 bytes each: kind 1, left 2, right 2, width 8, size 8, padded 1,
-//! class 2, the highest byte first. Their columns have 1,024 entries.
+//! class 2, the highest byte first. Their columns have 1,024 entries, and their groups are 1,024.
 
 use oracle::agreement::{judge, Verdict};
 use oracle::library::{Answer, Call, Columns, Library, OwnedColumns, Record, Request, Stream};
@@ -177,10 +177,11 @@ fn expected_out(q: &Request, answer: &Answer) -> Vec<u8> {
         nodes.push(t.kinds[node]);
         nodes.extend(t.lefts[node].to_be_bytes());
         nodes.extend(t.rights[node].to_be_bytes());
-        nodes.extend(t.widths[node].to_be_bytes());
-        nodes.extend(t.sizes[node].to_be_bytes());
-        nodes.push(t.padded[node]);
-        nodes.extend(t.classes[node].to_be_bytes());
+        let facts = t.facts(node);
+        nodes.extend(facts.width.to_be_bytes());
+        nodes.extend(facts.size.to_be_bytes());
+        nodes.push(facts.padded);
+        nodes.extend(facts.class.to_be_bytes());
     }
     nodes
 }
@@ -231,7 +232,7 @@ fn records_of(r: &mut Recorder, t: Columns) {
     use Call::*;
     let mut random = Random::new(1);
     for node in 0..t.count {
-        let width = t.widths[node as usize];
+        let width = t.facts(node as usize).width;
         for pattern in 0..1u64 << width {
             let offset = random.below(20);
             let bytes = placed(&mut random, pattern, width, offset);
@@ -270,7 +271,7 @@ fn records_of(r: &mut Recorder, t: Columns) {
 fn streams_of(r: &mut Recorder, t: Columns) {
     let mut random = Random::new(2);
     for node in [1, 2, 3, 5, 7, 9] {
-        for length in 0..=t.widths[node as usize] {
+        for length in 0..=t.facts(node as usize).width {
             for pattern in 0..1u64 << length {
                 let position = random.below(11);
                 let bytes = placed(&mut random, pattern, length, position);
@@ -300,7 +301,7 @@ fn constructors_of(r: &mut Recorder, t: Columns) {
             r.case(&Request { node, ..Request::new(call, t) });
         }
         for payload in [0, 1, 4, 5] {
-            let width = t.widths[payload as usize];
+            let width = t.facts(payload as usize).width;
             let (offset, pattern) = (random.below(12), random.below(1 << width));
             let bytes = placed(&mut random, pattern, width, offset);
             let a = Record { bytes: &bytes, offset, node: payload };

@@ -2,7 +2,7 @@
 
 use super::ladder::{refuse_if, unsound, Refusal, Test};
 use super::types::{Shape, Types};
-use crate::library::{Columns, OwnedColumns};
+use crate::library::{Columns, OwnedColumns, GROUP_BYTES};
 
 const MOST_NODES: u64 = 1024;
 
@@ -25,7 +25,7 @@ fn shape_of(node: usize, kind: u8, left: u16, right: u16) -> Option<Shape> {
     }
 }
 
-/// The count is in range and no column that must hold so many is shorter: else 1 at 0.
+/// The count is in range, and columns and groups that must hold so many nodes do: else 1 at 0.
 fn count_fits(count: u64, lengths: &[usize]) -> Result<usize, Refusal> {
     let in_range = (1..=MOST_NODES).contains(&count);
     if in_range && lengths.iter().all(|length| *length as u64 >= count) {
@@ -35,20 +35,30 @@ fn count_fits(count: u64, lengths: &[usize]) -> Result<usize, Refusal> {
     }
 }
 
-/// A table with facts: sound, or 1 at the first node whose entry or any fact is wrong.
+/// How many whole groups so many bytes hold.
+fn whole_groups(bytes: usize) -> usize {
+    bytes / GROUP_BYTES
+}
+
+/// A node's facts laid as its group: numbers low byte first, one after the other.
+fn group_of(types: &Types, node: usize) -> Vec<u8> {
+    let mut group = Vec::with_capacity(GROUP_BYTES);
+    group.extend(types.width(node).to_le_bytes());
+    group.extend(types.size(node).to_le_bytes());
+    group.push(u8::from(types.padded(node)));
+    group.extend((types.class(node) as u16).to_le_bytes());
+    group
+}
+
+/// A table with facts: sound, or 1 at the first node whose entry or any byte of whose group is wrong.
 pub fn judge(t: &Columns) -> Result<Types, Refusal> {
-    let lengths =
-        [t.kinds.len(), t.lefts.len(), t.rights.len(), t.widths.len(), t.sizes.len(), t.padded.len(), t.classes.len()];
+    let lengths = [t.kinds.len(), t.lefts.len(), t.rights.len(), whole_groups(t.groups.len())];
     let count = count_fits(t.count, &lengths)?;
     let mut types = Types::default();
-    for node in 0..count {
+    for (node, group) in t.groups.chunks_exact(GROUP_BYTES).enumerate().take(count) {
         let shape = shape_of(node, t.kinds[node], t.lefts[node], t.rights[node]).ok_or(unsound(node))?;
         types.add(shape);
-        let facts_right = t.widths[node] == types.width(node)
-            && t.sizes[node] == types.size(node)
-            && t.padded[node] == u8::from(types.padded(node))
-            && usize::from(t.classes[node]) == types.class(node);
-        if !facts_right {
+        if group != group_of(&types, node) {
             return Err(unsound(node));
         }
     }
@@ -65,10 +75,9 @@ pub fn judge_entries(kinds: &[u8], lefts: &[u16], rights: &[u16], count: u64) ->
     Ok(types)
 }
 
-/// 9: a facts column is too short for `count` nodes.
-pub fn facts_fit(facts: &OwnedColumns, count: usize) -> Test {
-    let shortest = [facts.widths.len(), facts.sizes.len(), facts.padded.len(), facts.classes.len()];
-    refuse_if(shortest.iter().any(|length| *length < count), 9)
+/// 9: the groups are too short for `count` nodes.
+pub fn facts_fit(columns: &OwnedColumns, count: usize) -> Test {
+    refuse_if(whole_groups(columns.groups.len()) < count, 9)
 }
 
 /// 9: an entries column is too short for `count` nodes.
@@ -77,14 +86,10 @@ pub fn entries_fit(columns: &OwnedColumns, count: usize) -> Test {
     refuse_if(shortest.iter().any(|length| *length < count), 9)
 }
 
-/// Writes the facts of all types; entries past them stay.
+/// Writes the facts of all types; bytes past them stay.
 pub fn write_facts(types: &Types, columns: &mut OwnedColumns) {
-    for node in 0..types.count() {
-        columns.widths[node] = types.width(node);
-        columns.sizes[node] = types.size(node);
-        columns.padded[node] = u8::from(types.padded(node));
-        columns.classes[node] = types.class(node) as u16;
-    }
+    let groups: Vec<u8> = (0..types.count()).flat_map(|node| group_of(types, node)).collect();
+    columns.groups[..groups.len()].copy_from_slice(&groups);
 }
 
 /// Writes the entries; what lies past them stays.

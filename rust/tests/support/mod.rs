@@ -3,7 +3,7 @@
 
 #![allow(dead_code)]
 
-use quelomavunt::raw::{self, Columns, ColumnsMut, FactsMut, RawRecord};
+use quelomavunt::raw::{self, Columns, ColumnsMut, GROUP_BYTES, RawRecord};
 
 /// A table with its facts, and the nodes that the tests name.
 #[derive(Clone, PartialEq, Debug)]
@@ -11,10 +11,7 @@ pub struct Zoo {
     pub kinds: Vec<u8>,
     pub lefts: Vec<u16>,
     pub rights: Vec<u16>,
-    pub widths: Vec<u64>,
-    pub sizes: Vec<u64>,
-    pub padded: Vec<u8>,
-    pub classes: Vec<u16>,
+    pub groups: Vec<u8>,
     pub count: u64,
 }
 
@@ -37,16 +34,7 @@ pub const LARGE: u64 = 57;
 
 impl Zoo {
     pub fn new() -> Zoo {
-        let mut zoo = Zoo {
-            kinds: vec![0],
-            lefts: vec![0],
-            rights: vec![0],
-            widths: Vec::new(),
-            sizes: Vec::new(),
-            padded: Vec::new(),
-            classes: Vec::new(),
-            count: 0,
-        };
+        let mut zoo = Zoo { kinds: vec![0], lefts: vec![0], rights: vec![0], groups: Vec::new(), count: 0 };
         zoo.push(1, 0, 0);
         for word in 1..=20 {
             zoo.push(2, word, word);
@@ -67,18 +55,8 @@ impl Zoo {
         }
         assert_eq!(u64::from(hollow), LARGE);
         zoo.count = zoo.kinds.len() as u64;
-        let length = zoo.kinds.len();
-        zoo.widths = vec![0; length];
-        zoo.sizes = vec![0; length];
-        zoo.padded = vec![0; length];
-        zoo.classes = vec![0; length];
-        let facts = FactsMut {
-            widths: &mut zoo.widths,
-            sizes: &mut zoo.sizes,
-            padded: &mut zoo.padded,
-            classes: &mut zoo.classes,
-        };
-        assert_eq!(raw::fill_facts(&zoo.kinds, &zoo.lefts, &zoo.rights, zoo.count, facts), 0);
+        zoo.groups = vec![0; GROUP_BYTES * zoo.kinds.len()];
+        assert_eq!(raw::fill_facts(&zoo.kinds, &zoo.lefts, &zoo.rights, zoo.count, &mut zoo.groups), 0);
         zoo
     }
 
@@ -94,12 +72,20 @@ impl Zoo {
             kinds: &self.kinds,
             lefts: &self.lefts,
             rights: &self.rights,
-            widths: &self.widths,
-            sizes: &self.sizes,
-            padded: &self.padded,
-            classes: &self.classes,
+            groups: &self.groups,
             count: self.count,
         }
+    }
+
+    /// The bytes of a node's facts.
+    pub fn group(&mut self, node: usize) -> &mut [u8] {
+        &mut self.groups[GROUP_BYTES * node..][..GROUP_BYTES]
+    }
+
+    /// A node's width, as its group says it.
+    pub fn width(&self, node: u64) -> u64 {
+        let at = GROUP_BYTES * node as usize;
+        u64::from_le_bytes(self.groups[at..at + 8].try_into().expect("eight bytes"))
     }
 }
 
@@ -219,13 +205,12 @@ pub fn calls() -> Vec<Call> {
             run: |w| {
                 let file = w.data.clone();
                 let t = &mut w.table;
-                let facts = FactsMut {
-                    widths: &mut t.widths,
-                    sizes: &mut t.sizes,
-                    padded: &mut t.padded,
-                    classes: &mut t.classes,
+                let columns = ColumnsMut {
+                    kinds: &mut t.kinds,
+                    lefts: &mut t.lefts,
+                    rights: &mut t.rights,
+                    groups: &mut t.groups,
                 };
-                let columns = ColumnsMut { kinds: &mut t.kinds, lefts: &mut t.lefts, rights: &mut t.rights, facts };
                 raw::read_table(&file, columns, &mut w.value)
             },
             good: |w| w.data = quelomavunt::samples::TABLE_S.to_vec(),
@@ -237,13 +222,7 @@ pub fn calls() -> Vec<Call> {
             name: "fill_facts",
             run: |w| {
                 let t = &mut w.table;
-                let facts = FactsMut {
-                    widths: &mut t.widths,
-                    sizes: &mut t.sizes,
-                    padded: &mut t.padded,
-                    classes: &mut t.classes,
-                };
-                raw::fill_facts(&t.kinds, &t.lefts, &t.rights, t.count, facts)
+                raw::fill_facts(&t.kinds, &t.lefts, &t.rights, t.count, &mut t.groups)
             },
             table: false,
             names: Names::Nothing,

@@ -12,7 +12,7 @@ use Rattle.meaning.specs.Bits.{bitsOf, toBits, zeros}
 use Rattle.bits.proofs.Numbers.{toBits-zero}
 use Rattle.bits.proofs.OfBytes.{length-bitsOf}
 use Rattle.bits.proofs.Parts.{take-own, zeros-part}
-use Rattle.bits.proofs.Pasted.{paste-same, paste-on}
+use Rattle.meaning.proofs.Pasted.{paste-same, paste-on}
 use Rattle.bits.proofs.clear_bits.Statement.{statement}
 use Rattle.bits.proofs.clear_bits.Tie as tie
 

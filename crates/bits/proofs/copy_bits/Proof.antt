@@ -8,7 +8,7 @@ use lib.Seq.{paste, drop-drop}
 use borrow.Author.Needs.{needs}
 use Rattle.meaning.specs.Bits.{bitsOf}
 use Rattle.bits.proofs.OfBytes.{length-bitsOf}
-use Rattle.bits.proofs.Pasted.{paste-on}
+use Rattle.meaning.proofs.Pasted.{paste-on}
 use Rattle.bits.proofs.copy_bits.Statement.{statement}
 use Rattle.bits.proofs.copy_bits.Tie as tie
 

@@ -6,7 +6,7 @@ use lib.ListN.{drop}
 use lib.Seq.{paste}
 use borrow.Author.Needs.{needs}
 use Rattle.meaning.specs.Bits.{bitsOf}
-use Rattle.bits.proofs.Pasted.{paste-take}
+use Rattle.meaning.proofs.Pasted.{paste-take}
 use Rattle.bits.proofs.copy_some.Statement.{statement}
 use Rattle.bits.proofs.copy_some.Tie as tie
 

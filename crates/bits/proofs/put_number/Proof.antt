@@ -12,7 +12,7 @@ use Rattle.meaning.specs.Bits.{bitsOf, toBits}
 use Rattle.bits.proofs.Numbers.{length-toBits}
 use Rattle.bits.proofs.OfBytes.{length-bitsOf}
 use Rattle.bits.proofs.Parts.{take-own, take-toBits, drop-toBits, toBits-byte, toBits-part}
-use Rattle.bits.proofs.Pasted.{paste-same, paste-on}
+use Rattle.meaning.proofs.Pasted.{paste-same, paste-on}
 use Rattle.bits.proofs.put_number.Statement.{statement}
 use Rattle.bits.proofs.put_number.Tie as tie
 

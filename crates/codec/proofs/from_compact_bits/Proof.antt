@@ -23,12 +23,12 @@ use Rattle.codec.proofs.from_compact_bits.Tie as tie
 -- What the call is given, at any place after the gate.
 module _ (c : tie.After-stream) where
   abbrev start : tie.Start
-  start = c .before .before .before .before .before .before .before .before .before .before
+  start = c .before .before .before .before .before .before .before
 
   abbrev of : Table
   of =
       let a = start .args in
-      table (a .kinds .now) (a .lefts .now) (a .rights .now) (a .widths .now) (a .sizes .now) (a .padded .now) (a .classes .now) (a .count)
+      table (a .kinds .now) (a .lefts .now) (a .rights .now) (a .groups .now) (a .count)
 
   abbrev stream : Stream
   stream = stream-of (start .args .bytes .now) (start .args .length) (start .args .position)
@@ -183,11 +183,11 @@ module _ (c : tie.After-slice-known2) where
   abbrev begun : tie.After-width-of
   begun = done .before .before .before
 
-sub-t23 : tie.Need-sub-t23
-sub-t23 c = omega (arith, done c .read-record .ensures .0)
+sub-t20 : tie.Need-sub-t20
+sub-t20 c = omega (arith, done c .read-record .ensures .0)
 
-add-t27 : tie.Need-add-t27
-add-t27 c =
+add-t24 : tie.Need-add-t24
+add-t24 c =
     let n = sized (begun c) in
     let s = checked (entered (judged n)) in
     record { fits = omega (arith, done c .read-record .ensures .0, within n, s .begins, start (call (judged n)) .fits .length .fits) }
@@ -225,7 +225,7 @@ from-compact-bits-spec =
     add-if2
     returns-3
     read-record-requires
-    sub-t23
-    add-t27
+    sub-t20
+    add-t24
     same-length
     returns-4)

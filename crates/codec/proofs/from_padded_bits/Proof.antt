@@ -24,12 +24,12 @@ use Rattle.codec.proofs.from_padded_bits.Tie as tie
 -- What the call is given, at any place after the gate.
 module _ (c : tie.After-stream) where
   abbrev start : tie.Start
-  start = c .before .before .before .before .before .before .before .before .before .before
+  start = c .before .before .before .before .before .before .before
 
   abbrev of : Table
   of =
       let a = start .args in
-      table (a .kinds .now) (a .lefts .now) (a .rights .now) (a .widths .now) (a .sizes .now) (a .padded .now) (a .classes .now) (a .count)
+      table (a .kinds .now) (a .lefts .now) (a .rights .now) (a .groups .now) (a .count)
 
   abbrev stream : Stream
   stream = stream-of (start .args .bytes .now) (start .args .length) (start .args .position)
@@ -156,8 +156,8 @@ module _ (c : tie.After-slice-known2) where
   abbrev judged : tie.Else1
   judged = copied .before .before .before
 
-add-t21 : tie.Need-add-t21
-add-t21 c =
+add-t18 : tie.Need-add-t18
+add-t18 c =
     let e = judged c in
     let w = sized e in
     record { fits = omega (arith, enough e, w .width-of .ensures, checked (entered w) .begins, start (call w) .fits .length .fits) }
@@ -195,6 +195,6 @@ from-padded-bits-spec =
     add-if2
     returns-3
     copy-record-requires
-    add-t21
+    add-t18
     same-length
     returns-4)

@@ -20,12 +20,12 @@ use Rattle.codec.proofs.to_padded_bits.Tie as tie
 -- What the call is given, at any place after the gate.
 module _ (c : tie.After-record) where
   abbrev start : tie.Start
-  start = c .before .before .before .before .before .before .before .before .before .before
+  start = c .before .before .before .before .before .before .before
 
   abbrev of : Table
   of =
       let a = start .args in
-      table (a .kinds .now) (a .lefts .now) (a .rights .now) (a .widths .now) (a .sizes .now) (a .padded .now) (a .classes .now) (a .count)
+      table (a .kinds .now) (a .lefts .now) (a .rights .now) (a .groups .now) (a .count)
 
   abbrev handed : Record
   handed = record-of (start .args .bytes .now) (start .args .offset) (start .args .node)

@@ -7,18 +7,18 @@ use Rattle.facts.proofs.class_at.Tie as tie
 find-requires : tie.Need-find-requires
 find-requires c κs =
     let x = c .before .before .before .before .args in
-    seeking (columns (x .kinds .now) (x .lefts .now) (x .rights .now)) (x .classes .now) (x .links .now) (x .start) (x .kind) (x .a) (x .b) (x .n) (c .before .before .before .before .pre)
+    seeking (columns (x .kinds .now) (x .lefts .now) (x .rights .now)) (x .groups .now) (x .links .now) (x .start) (x .kind) (x .a) (x .b) (x .n) (c .before .before .before .before .pre)
 
 returns : tie.Need-returns
 returns c =
     let x = c .before .before .before .before .before .before .args in
-    class-new (columns (x .kinds .now) (x .lefts .now) (x .rights .now)) (x .classes .now) (x .links .now) (x .start) (x .kind) (x .a) (x .b) (x .n) (c .before .before .before .before .before .before .pre) (c .before .find .result)
+    class-new (columns (x .kinds .now) (x .lefts .now) (x .rights .now)) (x .groups .now) (x .links .now) (x .start) (x .kind) (x .a) (x .b) (x .n) (c .before .before .before .before .before .before .pre) (c .before .find .result)
     (c .before .find .ensures) (c .if1 .taken)
 
 returns-2 : tie.Need-returns-2
 returns-2 c =
     let x = c .before .before .before .before .before .before .args in
-    class-old (columns (x .kinds .now) (x .lefts .now) (x .rights .now)) (x .classes .now) (x .links .now) (x .start) (x .kind) (x .a) (x .b) (x .n) (c .before .before .before .before .before .before .pre) (c .before .find .result)
+    class-old (columns (x .kinds .now) (x .lefts .now) (x .rights .now)) (x .groups .now) (x .links .now) (x .start) (x .kind) (x .a) (x .b) (x .n) (c .before .before .before .before .before .before .pre) (c .before .find .result)
     (c .before .find .ensures) (c .if1 .left)
 
 pub class-at-spec : {M : Type 1} → statement M

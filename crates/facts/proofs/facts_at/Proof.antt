@@ -4,27 +4,24 @@ use mathlib.Core.Path.{ap}
 use native.Mathlib.Omega.{arith}
 use lib.ListN.{getD}
 use borrow.Author.Needs.{needs}
-use Rattle.meaning.specs.Tables.{Columns, columns, Facts, facts}
+use Rattle.meaning.specs.Tables.{Columns, columns}
 use Rattle.facts.proofs.Linking.{slot-below}
 use Rattle.facts.proofs.Finding.{ready-right, head-within, unit-told, left-reach, right-reach, left-told, right-told, classing, node-told}
 use Rattle.facts.proofs.facts_at.Statement.{statement}
 use Rattle.facts.proofs.facts_at.Tie as tie
 
--- The entries and the facts that are handed in.
+-- The entries that are handed in.
 abbrev cols : tie.Start → Columns
 cols s = let x = s .args in columns (x .kinds .now) (x .lefts .now) (x .rights .now)
-
-abbrev fcts : tie.Start → Facts
-fcts s = let x = s .args in facts (x .widths .now) (x .sizes .now) (x .padded .now) (x .classes .now)
 
 shared-slice-read-kind : tie.Need-shared-slice-read-kind
 shared-slice-read-kind c = search needs
 
 returns : tie.Need-returns
 returns c =
-    let s = c .before .before .before .before .before .before .before .before .before in
+    let s = c .before .before .before .before .before .before in
     let x = s .args in
-    unit-told (cols s) (x .n) (ready-right (cols s) (fcts s) (x .heads .now) (x .links .now) (x .n) (s .pre)) (c .if1 .taken)
+    unit-told (cols s) (x .n) (ready-right (cols s) (x .groups .now) (x .heads .now) (x .links .now) (x .n) (s .pre)) (c .if1 .taken)
 
 mul-side-at : tie.Need-mul-side-at
 mul-side-at c = search needs
@@ -33,13 +30,13 @@ shared-slice-read-side-at : tie.Need-shared-slice-read-side-at
 shared-slice-read-side-at c = search needs
 
 cast-side-at : tie.Need-cast-side-at
-cast-side-at c = omega (arith, c .shared-slice-known9 .given (c .before .before .before .before .before .before .before .before .before .before .args .n))
+cast-side-at c = omega (arith, c .shared-slice-known6 .given (c .before .before .before .before .before .before .before .args .n))
 
 side-at-requires : tie.Need-side-at-requires
 side-at-requires c κs =
-    let s = c .before .before .before .before .before .before .before .before .before .before in
+    let s = c .before .before .before .before .before .before .before in
     let x = s .args in
-    left-reach (cols s) (fcts s) (x .heads .now) (x .links .now) (x .n) (s .pre) (c .before .if1 .left)
+    left-reach (cols s) (x .groups .now) (x .heads .now) (x .links .now) (x .n) (s .pre) (c .before .if1 .left)
 
 mul-side-at-2 : tie.Need-mul-side-at-2
 mul-side-at-2 c = search needs
@@ -48,13 +45,13 @@ shared-slice-read-side-at-2 : tie.Need-shared-slice-read-side-at-2
 shared-slice-read-side-at-2 c = search needs
 
 cast-side-at-2 : tie.Need-cast-side-at-2
-cast-side-at-2 c = omega (arith, c .shared-slice-known10 .given (c .before .before .before .before .before .before .before .before .before .before .before .before .args .n))
+cast-side-at-2 c = omega (arith, c .shared-slice-known7 .given (c .before .before .before .before .before .before .before .before .before .args .n))
 
 side-at-requires-2 : tie.Need-side-at-requires-2
 side-at-requires-2 c κs =
-    let s = c .before .before .before .before .before .before .before .before .before .before .before .before in
+    let s = c .before .before .before .before .before .before .before .before .before in
     let x = s .args in
-    right-reach (cols s) (fcts s) (x .heads .now) (x .links .now) (x .n) (s .pre) (c .before .before .before .if1 .left)
+    right-reach (cols s) (x .groups .now) (x .heads .now) (x .links .now) (x .n) (s .pre) (c .before .before .before .if1 .left)
 
 slot-of-requires : tie.Need-slot-of-requires
 slot-of-requires c κs = search needs
@@ -62,7 +59,7 @@ slot-of-requires c κs = search needs
 -- The slot of the key.
 slot-low : (c : tie.After-slot-of) → c .slot-of .result < 1024
 slot-low c =
-    let x = c .before .before .before .before .before .before .before .before .before .before .before .before .before .before .args in
+    let x = c .before .before .before .before .before .before .before .before .before .before .before .args in
     omega
     (arith, c .slot-of .ensures, slot-below (getD (x .kinds .now) (x .n) 0) (c .before .before .before .side-at .result .class) (c .before .side-at2 .result .class))
 
@@ -74,9 +71,9 @@ element-copy-out-start c = slot-low c
 
 cast-start : tie.Need-cast-start
 cast-start c =
-    let s = c .before .before .before .before .before .before .before .before .before .before .before .before .before .before .before in
+    let s = c .before .before .before .before .before .before .before .before .before .before .before .before in
     let x = s .args in
-    omega (arith, head-within (cols s) (fcts s) (x .heads .now) (x .links .now) (x .n) (s .pre) (c .before .slot-of .result) (slot-low (c .before)), s .pre .reach .few)
+    omega (arith, head-within (cols s) (x .groups .now) (x .heads .now) (x .links .now) (x .n) (s .pre) (c .before .slot-of .result) (slot-low (c .before)), s .pre .reach .few)
 
 width-by-requires : tie.Need-width-by-requires
 width-by-requires c κs = search needs
@@ -89,23 +86,23 @@ padded-by-requires c κs = search needs
 
 class-at-requires : tie.Need-class-at-requires
 class-at-requires c κs =
-    let s = c .before .before .before .before .before .before .before .before .before .before .before .before .before .before .before .before .before .before in
+    let s = c .before .before .before .before .before .before .before .before .before .before .before .before .before .before .before in
     let x = s .args in
     let ne = c .before .before .before .before .before .before .before .before .before .if1 .left in
-    let sx = c .before .before .before .before .before .before .before .side-at .ensures (cols s) (left-told (cols s) (fcts s) (x .heads .now) (x .links .now) (x .n) (s .pre) ne) in
-    let sy = c .before .before .before .before .before .side-at2 .ensures (cols s) (right-told (cols s) (fcts s) (x .heads .now) (x .links .now) (x .n) (s .pre) ne) in
-    classing (cols s) (fcts s) (x .heads .now) (x .links .now) (x .n) (s .pre) ne (c .before .before .before .before .before .before .before .side-at .result .class) (c .before .before .before .before .before .side-at2 .result .class)
+    let sx = c .before .before .before .before .before .before .before .side-at .ensures (cols s) (left-told (cols s) (x .groups .now) (x .heads .now) (x .links .now) (x .n) (s .pre) ne) in
+    let sy = c .before .before .before .before .before .side-at2 .ensures (cols s) (right-told (cols s) (x .groups .now) (x .heads .now) (x .links .now) (x .n) (s .pre) ne) in
+    classing (cols s) (x .groups .now) (x .heads .now) (x .links .now) (x .n) (s .pre) ne (c .before .before .before .before .before .before .before .side-at .result .class) (c .before .before .before .before .before .side-at2 .result .class)
     (getD (x .heads .now) (c .before .before .before .before .slot-of .result) 0) (sx .class-told) (sy .class-told)
     (ap (λ (i : ℕ). getD (x .heads .now) i 0) (c .before .before .before .before .slot-of .ensures))
 
 returns-2 : tie.Need-returns-2
 returns-2 c =
-    let s = c .before .before .before .before .before .before .before .before .before .before .before .before .before .before .before .before .before .before .before in
+    let s = c .before .before .before .before .before .before .before .before .before .before .before .before .before .before .before .before in
     let x = s .args in
     let ne = c .before .before .before .before .before .before .before .before .before .before .if1 .left in
-    let sx = c .before .before .before .before .before .before .before .before .side-at .ensures (cols s) (left-told (cols s) (fcts s) (x .heads .now) (x .links .now) (x .n) (s .pre) ne) in
-    let sy = c .before .before .before .before .before .before .side-at2 .ensures (cols s) (right-told (cols s) (fcts s) (x .heads .now) (x .links .now) (x .n) (s .pre) ne) in
-    node-told (cols s) (fcts s) (x .heads .now) (x .links .now) (x .n) (s .pre) ne (c .before .before .before .before .before .before .before .before .side-at .result) (c .before .before .before .before .before .before .side-at2 .result)
+    let sx = c .before .before .before .before .before .before .before .before .side-at .ensures (cols s) (left-told (cols s) (x .groups .now) (x .heads .now) (x .links .now) (x .n) (s .pre) ne) in
+    let sy = c .before .before .before .before .before .before .side-at2 .ensures (cols s) (right-told (cols s) (x .groups .now) (x .heads .now) (x .links .now) (x .n) (s .pre) ne) in
+    node-told (cols s) (x .groups .now) (x .heads .now) (x .links .now) (x .n) (s .pre) ne (c .before .before .before .before .before .before .before .before .side-at .result) (c .before .before .before .before .before .before .side-at2 .result)
     (record {
       width = c .before .before .before .width-by .result;
       size = c .before .before .size-by .result;

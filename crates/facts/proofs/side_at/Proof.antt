@@ -1,52 +1,36 @@
--- `facts::side_at` meets its contract: where the facts of a node are right, the columns have those of its tree. Assumes nothing.
+-- `facts::side_at` meets its contract: where the facts of a node are right, its group has those of its tree. Assumes nothing.
+use mathlib.Core.Path.{_∙_}
 use borrow.Author.Needs.{needs}
-use Rattle.meaning.specs.Tables.{facts}
+use Rattle.meaning.specs.Tables.{factsIn}
 use Rattle.facts.proofs.Judging.{told-width, told-size, told-padded, told-class}
 use Rattle.facts.proofs.side_at.Statement.{statement}
 use Rattle.facts.proofs.side_at.Tie as tie
 
-mul-t6 : tie.Need-mul-t6
-mul-t6 c = search needs
+width-at-requires : tie.Need-width-at-requires
+width-at-requires c κs = search needs
 
-shared-slice-read-t8 : tie.Need-shared-slice-read-t8
-shared-slice-read-t8 c = search needs
+size-at-requires : tie.Need-size-at-requires
+size-at-requires c κs = search needs
 
-mul-t9 : tie.Need-mul-t9
-mul-t9 c = search needs
+padded-at-requires : tie.Need-padded-at-requires
+padded-at-requires c κs = search needs
 
-shared-slice-read-t11 : tie.Need-shared-slice-read-t11
-shared-slice-read-t11 c = search needs
-
-shared-slice-read-t13 : tie.Need-shared-slice-read-t13
-shared-slice-read-t13 c = search needs
-
-mul-t14 : tie.Need-mul-t14
-mul-t14 c = search needs
-
-shared-slice-read-t16 : tie.Need-shared-slice-read-t16
-shared-slice-read-t16 c = search needs
+class-at-requires : tie.Need-class-at-requires
+class-at-requires c κs = search needs
 
 returns : tie.Need-returns
 returns c =
-    let x = c .before .before .before .before .args in
-    let f = facts (x .widths .now) (x .sizes .now) (x .padded .now) (x .classes .now) in
+    let x = c .before .before .before .before .before .args in
+    let f = factsIn (x .groups .now) in
     λ t h.
     record {
-      width-told = told-width t f (x .k) h;
-      size-told = told-size t f (x .k) h;
-      padded-told = told-padded t f (x .k) h;
-      class-told = told-class t f (x .k) h;
+      width-told = c .before .before .before .width-at .ensures ∙ told-width t f (x .k) h;
+      size-told = c .before .before .size-at .ensures ∙ told-size t f (x .k) h;
+      padded-told = c .before .padded-at .ensures ∙ told-padded t f (x .k) h;
+      class-told = c .class-at .ensures ∙ told-class t f (x .k) h;
     }
 
 pub side-at-spec : {M : Type 1} → statement M
 side-at-spec =
     tie.close
-    (tie.spec
-    mul-t6
-    shared-slice-read-t8
-    mul-t9
-    shared-slice-read-t11
-    shared-slice-read-t13
-    mul-t14
-    shared-slice-read-t16
-    returns)
+    (tie.spec width-at-requires size-at-requires padded-at-requires class-at-requires returns)

@@ -17,11 +17,10 @@ use Rattle.gate.proofs.Once.{once}
 use Rattle.gate.proofs.stream.Statement.{statement}
 use Rattle.gate.proofs.stream.Tie as tie
 
--- The table that the columns make, and the stream.
+-- The table that the columns and the groups make, and the stream.
 abbrev of : tie.Start → Table
 of c =
-    table (c .args .kinds .now) (c .args .lefts .now) (c .args .rights .now) (c .args .widths .now) (c .args .sizes .now)
-    (c .args .padded .now) (c .args .classes .now) (c .args .count)
+    table (c .args .kinds .now) (c .args .lefts .now) (c .args .rights .now) (c .args .groups .now) (c .args .count)
 
 abbrev given : tie.Start → Stream
 given c = stream-of (c .args .bytes .now) (c .args .length) (c .args .position)
@@ -33,9 +32,9 @@ long s = ltb (8 * length (s .args .bytes .now)) (s .args .length)
 abbrev beyond : tie.Start → Bool
 beyond s = ltb (s .args .length) (s .args .position)
 
-named-accepted : (c : tie.After-enum-told) → ladder (named (of (c .before .before .before .before .before .before .before .before .before .before .before)) (c .before .before .before .before .before .before .before .before .before .before .before .args .node ∷ [])) (tt {0}) ≡ accepted (tt {0})
+named-accepted : (c : tie.After-enum-told) → ladder (named (of (c .before .before .before .before .before .before .before .before)) (c .before .before .before .before .before .before .before .before .args .node ∷ [])) (tt {0}) ≡ accepted (tt {0})
 named-accepted c =
-    sym (once (of (c .before .before .before .before .before .before .before .before .before .before .before)) (c .before .before .before .before .before .before .before .before .before .before .before .args .node)) ∙ sym (c .before .before .nodes .ensures) ∙ ap doneOf (c .enum-told .given .1)
+    sym (once (of (c .before .before .before .before .before .before .before .before)) (c .before .before .before .before .before .before .before .before .args .node)) ∙ sym (c .before .before .nodes .ensures) ∙ ap doneOf (c .enum-told .given .1)
 
 -- What `past` says of the stream's length.
 long-is : (s : tie.Start) → ltb (8 * length (s .args .bytes .now)) (s .args .length + 0) ≡ long s
@@ -49,7 +48,7 @@ enum-known-judged c = search needs
 
 returns : tie.Need-returns
 returns c =
-    let s = c .before .before .before .before .before .before .before .before .before .before .before .before in
+    let s = c .before .before .before .before .before .before .before .before .before in
     stream-stop (of s) (given s) (s .args .node) (c .before .judged .given .0 .0 .number) (c .before .judged .given .0 .0 .place)
     (sym (ap doneOf (c .before .judged .given .1)) ∙ c .before .before .before .nodes .ensures ∙ once (of s) (s .args .node))
 
@@ -61,19 +60,19 @@ past-requires c κs = search needs
 
 returns-2 : tie.Need-returns-2
 returns-2 c =
-    let s = c .before .before .before .before .before .before .before .before .before .before .before .before .before in
+    let s = c .before .before .before .before .before .before .before .before .before .before in
     stream-past (of s) (given s) (s .args .node) (named-accepted (c .before .before))
     (or-inl (long s) (beyond s) (sym (long-is s) ∙ sym (c .before .past .ensures) ∙ c .if1 .taken))
 
 returns-3 : tie.Need-returns-3
 returns-3 c =
-    let s = c .before .before .before .before .before .before .before .before .before .before .before .before .before .before in
+    let s = c .before .before .before .before .before .before .before .before .before .before .before in
     stream-past (of s) (given s) (s .args .node) (named-accepted (c .before .before .before))
     (or-inr (long s) (beyond s) (lt-ltb (s .args .length) (s .args .position) (c .if2 .taken)))
 
 returns-4 : tie.Need-returns-4
 returns-4 c =
-    let s = c .before .before .before .before .before .before .before .before .before .before .before .before .before .before in
+    let s = c .before .before .before .before .before .before .before .before .before .before .before in
     stream-pass (of s) (given s) (s .args .node) (named-accepted (c .before .before .before))
     (or-none (long s) (beyond s) (sym (long-is s) ∙ sym (c .before .before .past .ensures) ∙ c .before .if1 .left)
     (le-ltb (s .args .length) (s .args .position) (c .if2 .left)))

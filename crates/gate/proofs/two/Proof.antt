@@ -7,17 +7,16 @@ use Rattle.gate.proofs.Once.{two-records}
 use Rattle.gate.proofs.two.Statement.{statement}
 use Rattle.gate.proofs.two.Tie as tie
 
--- The table that the columns make.
+-- The table that the columns and the groups make.
 abbrev of : tie.Start → Table
 of c =
-    table (c .args .kinds .now) (c .args .lefts .now) (c .args .rights .now) (c .args .widths .now) (c .args .sizes .now)
-    (c .args .padded .now) (c .args .classes .now) (c .args .count)
+    table (c .args .kinds .now) (c .args .lefts .now) (c .args .rights .now) (c .args .groups .now) (c .args .count)
 
 two-to-requires : tie.Need-two-to-requires
 two-to-requires c κs = search needs
 
 returns : tie.Need-returns
-returns c = let s = c .before .before .before .before .before .before .before .before .before .before in c .two-to .ensures ∙ two-records (of s) (record-of (s .args .a-bytes .now) (s .args .a-offset) (s .args .a-node)) (record-of (s .args .b-bytes .now) (s .args .b-offset) (s .args .b-node))
+returns c = let s = c .before .before .before .before .before .before .before in c .two-to .ensures ∙ two-records (of s) (record-of (s .args .a-bytes .now) (s .args .a-offset) (s .args .a-node)) (record-of (s .args .b-bytes .now) (s .args .b-offset) (s .args .b-node))
 
 pub two-spec : {M : Type 1} → statement M
 two-spec = tie.close (tie.spec two-to-requires returns)

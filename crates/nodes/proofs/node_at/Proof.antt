@@ -1,17 +1,20 @@
--- `nodes::node_at` meets its contract: each field is an entry of a column, and a sound table says what that is. Assumes nothing.
+-- `nodes::node_at` meets its contract: each field is an entry of a column or a fact of a group, and a sound table says what that is. Assumes nothing.
 use borrow.Author.Needs.{needs}
 use native.Mathlib.Omega.{arith}
-use Prim.Native.Nat.{ℕ, _<_}
+use mathlib.Core.Path.{_≡_, ap, _∙_}
+use Prim.Native.Nat.{ℕ, _+_, _*_, _≤_, _<_}
+use lib.Dec.{eqb}
+use lib.ListN.{length}
+use Rattle.meaning.specs.Groups.{groupSize}
 use Rattle.meaning.specs.Tables.{Table, table, left, right}
 use Rattle.meaning.proofs.Sounds.{sound-tree, sound-kind, sound-left, sound-right-side, sound-left-falls, sound-right-falls, sound-width, sound-padded, sound-class}
+use Rattle.meaning.proofs.GroupLaws.{sound-group}
 use Rattle.nodes.proofs.node_at.Statement.{statement}
 use Rattle.nodes.proofs.node_at.Tie as tie
 
--- The table that the columns make.
+-- The table that is handed in.
 abbrev of : tie.Start → Table
-of c =
-    table (c .args .kinds .now) (c .args .lefts .now) (c .args .rights .now) (c .args .widths .now) (c .args .sizes .now)
-    (c .args .padded .now) (c .args .classes .now) (c .args .count)
+of c = table (c .args .kinds .now) (c .args .lefts .now) (c .args .rights .now) (c .args .groups .now) (c .args .count)
 
 -- Both sides are in the table.
 left-in : (c : tie.Start) → left (of c .columns) (c .args .n) < c .args .count
@@ -20,6 +23,10 @@ left-in c = sound-left (of c) (c .pre .0) (c .args .n) (c .pre .1)
 right-in : (c : tie.Start) → right (of c .columns) (c .args .n) < c .args .count
 right-in c = sound-right-side (of c) (c .pre .0) (c .args .n) (c .pre .1)
 
+-- A node of the table has a group.
+grouped : (c : tie.Start) (k : ℕ) → k < c .args .count → groupSize * (k + 1) ≤ length (c .args .groups .now)
+grouped c k h = sound-group (c .args .kinds .now) (c .args .lefts .now) (c .args .rights .now) (c .args .groups .now) (c .args .count) k (c .pre .0) h
+
 mul-left : tie.Need-mul-left
 mul-left c = search needs
 
@@ -27,7 +34,7 @@ shared-slice-read-left : tie.Need-shared-slice-read-left
 shared-slice-read-left c = search needs
 
 cast-left : tie.Need-cast-left
-cast-left c = let l = left-in (c .before) in let f = c .before .fits .count in record { fits = omega arith }
+cast-left c = let b = c .before .before .before .before .before in let l = left-in b in let f = b .fits .count in record { fits = omega arith }
 
 mul-right : tie.Need-mul-right
 mul-right c = search needs
@@ -36,48 +43,40 @@ shared-slice-read-right : tie.Need-shared-slice-read-right
 shared-slice-read-right c = search needs
 
 cast-right : tie.Need-cast-right
-cast-right c = let r = right-in (c .before .before) in let f = c .before .before .fits .count in record { fits = omega arith }
-
-shared-slice-read-t17 : tie.Need-shared-slice-read-t17
-shared-slice-read-t17 c = search needs
-
-mul-t12 : tie.Need-mul-t12
-mul-t12 c = search needs
-
-shared-slice-read-t19 : tie.Need-shared-slice-read-t19
-shared-slice-read-t19 c = search needs
-
-mul-t20 : tie.Need-mul-t20
-mul-t20 c =
-    let b = c .before .before .before .before in let l = left-in b in let s = b .pre .0 .few-nodes in record { fits = omega arith }
-
-shared-slice-read-t22 : tie.Need-shared-slice-read-t22
-shared-slice-read-t22 c =
-    let b = c .before .before .before .before .before in let l = left-in b in let s = b .pre .0 .widths-reach in omega arith
-
-mul-t23 : tie.Need-mul-t23
-mul-t23 c =
-    let b = c .before .before .before .before .before in let l = right-in b in let s = b .pre .0 .few-nodes in record { fits = omega arith }
-
-shared-slice-read-t25 : tie.Need-shared-slice-read-t25
-shared-slice-read-t25 c =
-    let b = c .before .before .before .before .before .before in let l = right-in b in let s = b .pre .0 .widths-reach in omega arith
-
-shared-slice-read-t27 : tie.Need-shared-slice-read-t27
-shared-slice-read-t27 c = search needs
-
-mul-t29 : tie.Need-mul-t29
-mul-t29 c = search needs
+cast-right c =
+    let b = c .before .before .before .before .before .before in let r = right-in b in let f = b .fits .count in record { fits = omega arith }
 
 shared-slice-read-t14 : tie.Need-shared-slice-read-t14
 shared-slice-read-t14 c = search needs
 
-cast-t31 : tie.Need-cast-t31
-cast-t31 c = record { fits = omega (arith, c .shared-slice-known8 .given (c .before .before .before .before .before .before .before .before .args .n)) }
+-- Where all entries were read.
+abbrev start : tie.After-shared-slice-known7 → tie.Start
+start c = c .before .before .before .before .before .before .before
+
+width-at-requires : tie.Need-width-at-requires
+width-at-requires c κs = grouped (start c) (start c .args .n) (start c .pre .1)
+
+width-at-requires-2 : tie.Need-width-at-requires-2
+width-at-requires-2 c κs = let s = start (c .before) in grouped s (left (of s .columns) (s .args .n)) (left-in s)
+
+width-at-requires-3 : tie.Need-width-at-requires-3
+width-at-requires-3 c κs = let s = start (c .before .before) in grouped s (right (of s .columns) (s .args .n)) (right-in s)
+
+padded-at-requires : tie.Need-padded-at-requires
+padded-at-requires c κs = let s = start (c .before .before .before) in grouped s (s .args .n) (s .pre .1)
+
+class-at-requires : tie.Need-class-at-requires
+class-at-requires c κs = let s = start (c .before .before .before .before) in grouped s (s .args .n) (s .pre .1)
+
+cast-t9 : tie.Need-cast-t9
+cast-t9 c = search needs
 
 returns : tie.Need-returns
 returns c =
-    let b = c .before .before .before .before .before .before .before .before in
+    let w3 = c .before .before in
+    let w2 = w3 .before in
+    let w1 = w2 .before in
+    let b = start (w1 .before) in
     let t = of b in
     let s = b .pre .0 in
     let n = b .args .n in
@@ -89,11 +88,11 @@ returns c =
       right-in = sound-right-side t s n h;
       left-falls = sound-left-falls t s n h;
       right-falls = sound-right-falls t s n h;
-      width-is = sound-width t s n h;
-      left-width-is = sound-width t s (left (t .columns) n) (sound-left t s n h);
-      right-width-is = sound-width t s (right (t .columns) n) (sound-right-side t s n h);
-      padded-is = sound-padded t s n h;
-      class-is = sound-class t s n h;
+      width-is = w1 .width-at .ensures ∙ sound-width t s n h;
+      left-width-is = w2 .width-at2 .ensures ∙ sound-width t s (left (t .columns) n) (sound-left t s n h);
+      right-width-is = w3 .width-at3 .ensures ∙ sound-width t s (right (t .columns) n) (sound-right-side t s n h);
+      padded-is = ap (λ (x : ℕ). eqb x 1) (c .before .padded-at .ensures) ∙ sound-padded t s n h;
+      class-is = c .class-at .ensures ∙ sound-class t s n h;
     }
 
 pub node-at-spec : {M : Type 1} → statement M
@@ -106,15 +105,11 @@ node-at-spec =
     mul-right
     shared-slice-read-right
     cast-right
-    shared-slice-read-t17
-    mul-t12
-    shared-slice-read-t19
-    mul-t20
-    shared-slice-read-t22
-    mul-t23
-    shared-slice-read-t25
-    shared-slice-read-t27
-    mul-t29
     shared-slice-read-t14
-    cast-t31
+    width-at-requires
+    width-at-requires-2
+    width-at-requires-3
+    padded-at-requires
+    class-at-requires
+    cast-t9
     returns)

@@ -18,14 +18,14 @@ use Rattle.prune.proofs.taken_side.Reads as taken-side-reads
 use Rattle.prune.proofs.+fits.{statement}
 use Rattle.prune.proofs.+fits.Tie.{close}
 
-abbrev μ-fits : Measures 8 fits-kinds.ps ℕ
-μ-fits κs a = a .1 .1 .1 .1 .1 .1 .1 .1 .1 .1 .1 .0
+abbrev μ-fits : Measures 5 fits-kinds.ps ℕ
+μ-fits κs a = a .1 .1 .1 .1 .1 .1 .1 .1 .0
 
-abbrev fits-at : ℕ → In 8 fits-kinds.ps
-fits-at t = and 8 fits-kinds.ps (is 8 fits-kinds.ps μ-fits t) fits.Pre
+abbrev fits-at : ℕ → In 5 fits-kinds.ps
+fits-at t = and 5 fits-kinds.ps (is 5 fits-kinds.ps μ-fits t) fits.Pre
 
-abbrev fits-below : ℕ → In 8 fits-kinds.ps
-fits-below t = and 8 fits-kinds.ps (falls 8 fits-kinds.ps _<_ μ-fits t) fits.Pre
+abbrev fits-below : ℕ → In 5 fits-kinds.ps
+fits-below t = and 5 fits-kinds.ps (falls 5 fits-kinds.ps _<_ μ-fits t) fits.Pre
 
 abbrev claims : ℕ → fits-lts.Claims
 claims t = (
@@ -42,13 +42,12 @@ abbrev Read : ℕ → Type 0
 Read t = fits-lts.After-node-at2 (claims t) (fits-at t) fits.Post
 
 abbrev start : (t : ℕ) → Read t → fits-lts.Start (claims t) (fits-at t) fits.Post
-start t c = c .before .before .before .before .before .before .before .before .before .before
+start t c = c .before .before .before .before .before .before .before
 
--- The table that the columns make.
+-- The table that the columns and the groups make.
 abbrev of : (t : ℕ) → fits-lts.Start (claims t) (fits-at t) fits.Post → Table
 of t c =
-    table (c .args .kinds .now) (c .args .lefts .now) (c .args .rights .now) (c .args .widths .now) (c .args .sizes .now)
-    (c .args .padded .now) (c .args .classes .now) (c .args .count)
+    table (c .args .kinds .now) (c .args .lefts .now) (c .args .rights .now) (c .args .groups .now) (c .args .count)
 
 step : (t : ℕ) (c : Read t)
     → Step (of t (start t c)) (start t c .args .src .now) (start t c .args .at) (start t c .args .node) (start t c .args .target)
@@ -58,11 +57,11 @@ step t c =
 
 fits-node-at-requires : (t : ℕ) → fits-lts.Need-node-at-requires (claims t) (fits-at t) fits.Post
 fits-node-at-requires t c κs =
-    let w = c .before .before .before .before .before .before .before .before .pre .1 in (w .sound, w .target-in)
+    let w = c .before .before .before .before .before .pre .1 in (w .sound, w .target-in)
 
 fits-node-at-requires-2 : (t : ℕ) → fits-lts.Need-node-at-requires-2 (claims t) (fits-at t) fits.Post
 fits-node-at-requires-2 t c κs =
-    let w = c .before .before .before .before .before .before .before .before .before .pre .1 in (w .sound, w .node-in)
+    let w = c .before .before .before .before .before .before .pre .1 in (w .sound, w .node-in)
 
 fits-returns : (t : ℕ) → fits-lts.Need-returns (claims t) (fits-at t) fits.Post
 fits-returns t c = sym (ap isCut (step-equal (step t (c .before)) (c .if1 .taken)))

@@ -23,14 +23,14 @@ use Rattle.prune.proofs.taken_side.Reads as taken-side-reads
 use Rattle.prune.proofs.+write.{statement}
 use Rattle.prune.proofs.+write.Tie.{close}
 
-abbrev μ-write : Measures 9 write-kinds.ps ℕ
-μ-write κs a = a .1 .1 .1 .1 .1 .1 .1 .1 .1 .1 .1 .0
+abbrev μ-write : Measures 6 write-kinds.ps ℕ
+μ-write κs a = a .1 .1 .1 .1 .1 .1 .1 .1 .0
 
-abbrev write-at : ℕ → In 9 write-kinds.ps
-write-at t = and 9 write-kinds.ps (is 9 write-kinds.ps μ-write t) write.Pre
+abbrev write-at : ℕ → In 6 write-kinds.ps
+write-at t = and 6 write-kinds.ps (is 6 write-kinds.ps μ-write t) write.Pre
 
-abbrev write-below : ℕ → In 9 write-kinds.ps
-write-below t = and 9 write-kinds.ps (falls 9 write-kinds.ps _<_ μ-write t) write.Pre
+abbrev write-below : ℕ → In 6 write-kinds.ps
+write-below t = and 6 write-kinds.ps (falls 6 write-kinds.ps _<_ μ-write t) write.Pre
 
 abbrev claims : ℕ → write-lts.Claims
 claims t = (
@@ -53,13 +53,12 @@ abbrev Read : ℕ → Type 0
 Read t = write-lts.After-node-at2 (claims t) (write-at t) write.Post
 
 abbrev start : (t : ℕ) → Read t → write-lts.Start (claims t) (write-at t) write.Post
-start t c = c .before .before .before .before .before .before .before .before .before .before .before
+start t c = c .before .before .before .before .before .before .before .before
 
--- The table that the columns make.
+-- The table that the columns and the groups make.
 abbrev of : (t : ℕ) → write-lts.Start (claims t) (write-at t) write.Post → Table
 of t c =
-    table (c .args .kinds .now) (c .args .lefts .now) (c .args .rights .now) (c .args .widths .now) (c .args .sizes .now)
-    (c .args .padded .now) (c .args .classes .now) (c .args .count)
+    table (c .args .kinds .now) (c .args .lefts .now) (c .args .rights .now) (c .args .groups .now) (c .args .count)
 
 step : (t : ℕ) (c : Read t)
     → Step (of t (start t c)) (start t c .args .src .now) (start t c .args .at) (start t c .args .node) (start t c .args .target)
@@ -69,11 +68,11 @@ step t c =
 
 write-node-at-requires : (t : ℕ) → write-lts.Need-node-at-requires (claims t) (write-at t) write.Post
 write-node-at-requires t c κs =
-    let w = c .before .before .before .before .before .before .before .before .before .pre .1 .0 in (w .sound, w .target-in)
+    let w = c .before .before .before .before .before .before .pre .1 .0 in (w .sound, w .target-in)
 
 write-node-at-requires-2 : (t : ℕ) → write-lts.Need-node-at-requires-2 (claims t) (write-at t) write.Post
 write-node-at-requires-2 t c κs =
-    let w = c .before .before .before .before .before .before .before .before .before .before .pre .1 .0 in (w .sound, w .node-in)
+    let w = c .before .before .before .before .before .before .before .pre .1 .0 in (w .sound, w .node-in)
 
 -- Equal types.
 write-copy-bits-requires : (t : ℕ) → write-lts.Need-copy-bits-requires (claims t) (write-at t) write.Post
@@ -207,7 +206,7 @@ write-write-requires t c κs =
     )
 
 write-same-length-2 : (t : ℕ) → write-lts.Need-same-length-2 (claims t) (write-at t) write.Post
-write-same-length-2 t c = c .before .before .write .kept .1 .1 .1 .1 .1 .1 .1 .1 .1 .1 .1 .1 .0 ∙ kept-sum t (c .before .before .before .before .before .before .before)
+write-same-length-2 t c = c .before .before .write .kept .1 .1 .1 .1 .1 .1 .1 .1 .1 .0 ∙ kept-sum t (c .before .before .before .before .before .before .before)
 
 write-returns-3 : (t : ℕ) → write-lts.Need-returns-3 (claims t) (write-at t) write.Post
 write-returns-3 t c =
@@ -216,7 +215,7 @@ write-returns-3 t c =
     let a = start-sum t e in
     let put = d .before .before .before .before .put-bit in
     written-sum (sum-step t e) (a .args .out .now) (a .args .to) (a .pre .1 .1 .1) (put .last .0) (d .clear-bits .last .0)
-    (c .before .before .write .last .1 .1 .1 .1 .1 .1 .1 .1 .1 .1 .1 .1 .0) (a .pre .1 .1 .0) (put .ensures) (d .clear-bits .ensures) (c .before .before .write .ensures)
+    (c .before .before .write .last .1 .1 .1 .1 .1 .1 .1 .1 .1 .0) (a .pre .1 .1 .0) (put .ensures) (d .clear-bits .ensures) (c .before .before .write .ensures)
 
 -- At a product.
 abbrev Product : ℕ → Type 0
@@ -279,22 +278,22 @@ write-write-requires-3 t c κs =
         walk-second s,
         (
           cuts-second s o (a .args .to) (a .pre .1 .1 .1) (a .pre .1 .1 .0),
-          lies-second s o (a .args .to) (a .pre .1 .1 .1) (d .write2 .last .1 .1 .1 .1 .1 .1 .1 .1 .1 .1 .1 .1 .0) (d .write2 .kept .1 .1 .1 .1 .1 .1 .1 .1 .1 .1 .1 .1 .0),
+          lies-second s o (a .args .to) (a .pre .1 .1 .1) (d .write2 .last .1 .1 .1 .1 .1 .1 .1 .1 .1 .0) (d .write2 .kept .1 .1 .1 .1 .1 .1 .1 .1 .1 .0),
         ),
       ),
     )
 
 write-same-length-3 : (t : ℕ) → write-lts.Need-same-length-3 (claims t) (write-at t) write.Post
 write-same-length-3 t c =
-    c .before .before .write3 .kept .1 .1 .1 .1 .1 .1 .1 .1 .1 .1 .1 .1 .0 ∙ c .before .before .before .before .before .before .write2 .kept .1 .1 .1 .1 .1 .1 .1 .1 .1 .1 .1 .1 .0
+    c .before .before .write3 .kept .1 .1 .1 .1 .1 .1 .1 .1 .1 .0 ∙ c .before .before .before .before .before .before .write2 .kept .1 .1 .1 .1 .1 .1 .1 .1 .1 .0
 
 write-returns-4 : (t : ℕ) → write-lts.Need-returns-4 (claims t) (write-at t) write.Post
 write-returns-4 t c =
     let d = c .before .before .before .before .before .before in
     let e = d .before .before in
     let a = start-product t e in
-    written-product (product-step t e) (a .args .out .now) (a .args .to) (a .pre .1 .1 .1) (d .write2 .last .1 .1 .1 .1 .1 .1 .1 .1 .1 .1 .1 .1 .0)
-    (c .before .before .write3 .last .1 .1 .1 .1 .1 .1 .1 .1 .1 .1 .1 .1 .0) (a .pre .1 .1 .0) (d .write2 .ensures) (c .before .before .write3 .ensures)
+    written-product (product-step t e) (a .args .out .now) (a .args .to) (a .pre .1 .1 .1) (d .write2 .last .1 .1 .1 .1 .1 .1 .1 .1 .1 .0)
+    (c .before .before .write3 .last .1 .1 .1 .1 .1 .1 .1 .1 .1 .0) (a .pre .1 .1 .0) (d .write2 .ensures) (c .before .before .write3 .ensures)
 
 pub +write-spec : {M : Type 1} → statement M
 +write-spec = close μ-write λ t. write-lts.spec (claims t)

@@ -5,11 +5,11 @@ use Rattle.samples.proofs.replay_list.Statement.{statement}
 use Rattle.samples.proofs.replay_list.Tie as tie
 
 abbrev Inv-loop : tie.InvT-loop
-Inv-loop list kinds₀ lefts₀ rights₀ widths₀ sizes₀ padded₀ classes₀ count₀ replayed₀ differing₀ differences₀ cases at₀ case₀ t19 t20 kinds lefts rights widths sizes padded classes count replayed differing differences at case =
+Inv-loop list kinds₀ lefts₀ rights₀ groups₀ count₀ replayed₀ differing₀ differences₀ cases at₀ case₀ t16 t17 kinds lefts rights groups count replayed differing differences at case =
     case ≤ cases
 
 abbrev μ-loop : tie.MeasureT-loop
-μ-loop list kinds₀ lefts₀ rights₀ widths₀ sizes₀ padded₀ classes₀ count₀ replayed₀ differing₀ differences₀ cases at₀ case₀ t19 t20 kinds lefts rights widths sizes padded classes count replayed differing differences at case =
+μ-loop list kinds₀ lefts₀ rights₀ groups₀ count₀ replayed₀ differing₀ differences₀ cases at₀ case₀ t16 t17 kinds lefts rights groups count replayed differing differences at case =
     cases - case
 
 number-at-requires : tie.Need-number-at-requires Inv-loop μ-loop

@@ -29,7 +29,7 @@ use denote.Triple.Table.{entered}
 use Rattle.view.specs.declared.View.{View}
 use Rattle.view.proofs.View as T
 use Rattle.view.proofs.View.Laws as T′
-use Rattle.view.proofs.Apart.{fieldTypes, fields, fieldVals, view-told, opened}
+use Rattle.view.proofs.Apart.{fieldVals, view-told, opened}
 use Rattle.view.proofs.Locals.{allocates, clears}
 use Rattle.view.proofs.Thin.{Quiet, Asked, begins, ends}
 use Rattle.view.proofs.bytes.Key.{name as #view·bytes}

@@ -32,7 +32,7 @@ use Rattle.answers.proofs.Spot.Laws as S′
 use Rattle.view.specs.declared.View.{View}
 use Rattle.view.proofs.View as T
 use Rattle.view.proofs.View.Laws as T′
-use Rattle.view.proofs.Apart.{fieldTypes, fields, fieldVals, view-told, opened}
+use Rattle.view.proofs.Apart.{fieldVals, view-told, opened}
 use Rattle.view.proofs.Locals.{allocates, clears, arg}
 use Rattle.view.proofs.Owned.{packed}
 use Rattle.view.proofs.Thin.{Quiet, Asked, begins, ends}

@@ -37,7 +37,7 @@ fn of_type(run: &mut Run, random: &mut Random, table: &OwnedColumns, node: u64) 
 /// Calls with one payload: every record of its type.
 fn of_payloads(run: &mut Run, random: &mut Random, table: &OwnedColumns, payload: u64, node: u64) {
     let out = before(8);
-    let width = table.widths[payload as usize];
+    let width = table.facts(payload as usize).width;
     for pattern in 0..1u64 << width {
         for _ in 0..3 {
             let (offset, after) = (random.below(64), random.below(2) as usize);
@@ -54,7 +54,7 @@ fn of_payloads(run: &mut Run, random: &mut Random, table: &OwnedColumns, payload
 /// Calls with two payloads: every pair of records of their types.
 fn of_pairs(run: &mut Run, random: &mut Random, table: &OwnedColumns, a: u64, b: u64, node: u64) {
     let out = before(8);
-    let (a_width, b_width) = (table.widths[a as usize], table.widths[b as usize]);
+    let (a_width, b_width) = (table.facts(a as usize).width, table.facts(b as usize).width);
     for pattern in 0..1u64 << (a_width + b_width) {
         let (a_offset, b_offset) = (random.below(64), random.below(64));
         let a_bytes = placed(random, pattern >> b_width, a_width, a_offset, 1);

@@ -24,7 +24,7 @@ pub fn sweep(run: &mut Run, size: &Size) {
             let put = |tree| if spread { maker.add_spread(tree) } else { maker.add_shared(tree) };
             let nodes: Vec<u16> = targets.iter().map(|tree| &**tree).map(put).collect();
             let table = maker.finish();
-            let width = table.widths[usize::from(node)];
+            let width = table.facts(usize::from(node)).width;
             let offset = random.below(64);
             for pattern in 0..1u64 << width {
                 let bytes = placed(&mut random, pattern, width, offset, 1);

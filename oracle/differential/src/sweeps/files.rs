@@ -1,10 +1,12 @@
-//! Table files and tables in memory: every short file, sound files with something wrong, columns of every length.
+//! Table files and tables in memory: every short file, sound files with something wrong, columns and groups of all
+//! lengths.
 //!
 //! The crate has no tables, so these requests compare the archive with the model alone.
 
+use super::groups::change_group;
 use super::Size;
 use crate::run::Run;
-use oracle::library::{Call, OwnedColumns, Request};
+use oracle::library::{Call, OwnedColumns, Request, GROUP_BYTES};
 use oracle::supply::{put_number, Random, TableMaker};
 
 pub fn sweep(run: &mut Run, size: &Size) {
@@ -83,12 +85,12 @@ fn cut_and_changed(run: &mut Run, random: &mut Random, file: &[u8], columns: &Ow
     }
 }
 
-/// Columns shorter than, as long as and longer than the count, each column in turn; in memory too.
+/// Columns and groups shorter than, as long as and longer than the count needs, each in turn; in memory too.
 fn columns_of_all_lengths(run: &mut Run, random: &mut Random, maker: &TableMaker) {
     let file = maker.file();
     let count = maker.count();
     let sound = maker.finish();
-    for column in 0..7 {
+    for column in 0..4 {
         for length in [0, count - 1, count, count + 1] {
             let mut columns = OwnedColumns::marked(count + 1);
             resize(&mut columns, column, length);
@@ -115,15 +117,13 @@ fn columns_of_all_lengths(run: &mut Run, random: &mut Random, maker: &TableMaker
     }
 }
 
-fn resize(columns: &mut OwnedColumns, column: usize, length: usize) {
+/// Gives one of the three columns, or the groups, the length of so many nodes.
+fn resize(columns: &mut OwnedColumns, column: usize, nodes: usize) {
     match column {
-        0 => columns.kinds.resize(length, 0),
-        1 => columns.lefts.resize(length, 0),
-        2 => columns.rights.resize(length, 0),
-        3 => columns.widths.resize(length, 0),
-        4 => columns.sizes.resize(length, 0),
-        5 => columns.padded.resize(length, 0),
-        _ => columns.classes.resize(length, 0),
+        0 => columns.kinds.resize(nodes, 0),
+        1 => columns.lefts.resize(nodes, 0),
+        2 => columns.rights.resize(nodes, 0),
+        _ => columns.groups.resize(GROUP_BYTES * nodes, 0),
     }
 }
 
@@ -133,10 +133,7 @@ fn change(random: &mut Random, table: &mut OwnedColumns) {
         0 => table.kinds[node] = random.below(4) as u8,
         1 => table.lefts[node] = random.below(node as u64 + 2) as u16,
         2 => table.rights[node] = random.below(node as u64 + 2) as u16,
-        3 => table.widths[node] = table.widths[node].wrapping_add(1),
-        4 => table.sizes[node] = table.sizes[node].wrapping_sub(1),
-        5 => table.padded[node] = random.below(3) as u8,
-        6 => table.classes[node] = random.below(node as u64 + 1) as u16,
+        3..=6 => change_group(random, table, node),
         _ => table.count = random.below(table.count + 3),
     }
 }
@@ -173,7 +170,7 @@ fn full_tables(run: &mut Run, random: &mut Random, columns: &OwnedColumns) {
     // In memory: a full table, and one node more than may be.
     let mut table = maker.finish();
     run.check_archive(&Request::new(Call::CheckTable, table.lend()));
-    for column in 0..7 {
+    for column in 0..4 {
         resize(&mut table, column, 1025);
     }
     table.count = 1025;

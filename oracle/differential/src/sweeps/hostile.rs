@@ -1,8 +1,9 @@
 //! Hostile input in every call: a sound request, then up to four things wrong with it at once.
 
+use super::groups::change_group;
 use super::{before, Size};
 use crate::run::Run;
-use oracle::library::{Call, OwnedColumns, Record, Request, Stream, VALUES_BEFORE};
+use oracle::library::{Call, OwnedColumns, Record, Request, Stream, GROUP_BYTES, VALUES_BEFORE};
 use oracle::supply::{trees_up_to, Random, TableMaker};
 
 /// Numbers at which sums and products of 64 bits go wrong, and small ones.
@@ -92,7 +93,7 @@ fn sound<'a>(
         let node = random.below(table.count);
         let offset = random.below(64);
         let length =
-            (offset + table.widths[node as usize].min(524_288)).div_ceil(8) as usize + random.below(2) as usize;
+            (offset + table.facts(node as usize).width.min(524_288)).div_ceil(8) as usize + random.below(2) as usize;
         let from = random.below((garbage.len() - length + 1) as u64) as usize;
         Record { bytes: &garbage[from..from + length], offset, node }
     };
@@ -109,7 +110,7 @@ fn sound<'a>(
     let room = if random.one_in(3) {
         random.below(12) as usize
     } else {
-        table.widths[node as usize].min(540_000).div_ceil(8) as usize
+        table.facts(node as usize).width.min(540_000).div_ceil(8) as usize
     };
     Request {
         a,
@@ -179,26 +180,23 @@ fn around(random: &mut Random, bound: u64, wild: u64) -> u64 {
 
 fn shorten(random: &mut Random, table: &mut OwnedColumns) {
     let to = random.below(table.count.clamp(1, 2000) + 1) as usize;
-    match random.below(7) {
+    match random.below(5) {
         0 => table.kinds.truncate(to),
         1 => table.lefts.truncate(to),
         2 => table.rights.truncate(to),
-        3 => table.widths.truncate(to),
-        4 => table.sizes.truncate(to),
-        5 => table.padded.truncate(to),
-        _ => table.classes.truncate(to),
+        3 => table.groups.truncate(GROUP_BYTES * to),
+        // In the middle of a group.
+        _ => table.groups.truncate(GROUP_BYTES * to + random.below(GROUP_BYTES as u64) as usize),
     }
 }
 
-/// Entries past the count, which no call may look at.
+/// Entries and bytes of groups past the count, which no call may look at.
 fn lengthen(random: &mut Random, table: &mut OwnedColumns) {
     table.kinds.push(random.draw() as u8);
     table.lefts.push(random.draw() as u16);
     table.rights.push(random.draw() as u16);
-    table.widths.push(random.draw());
-    table.sizes.push(random.draw());
-    table.padded.push(random.draw() as u8);
-    table.classes.push(random.draw() as u16);
+    let more = 1 + random.below(2 * GROUP_BYTES as u64) as usize;
+    table.groups.extend(random.bytes(more));
 }
 
 fn spoil_entry(random: &mut Random, table: &mut OwnedColumns) {
@@ -217,15 +215,9 @@ fn spoil_entry(random: &mut Random, table: &mut OwnedColumns) {
 }
 
 fn spoil_fact(random: &mut Random, table: &mut OwnedColumns) {
-    let shortest = table.widths.len().min(table.sizes.len()).min(table.padded.len()).min(table.classes.len());
-    if shortest == 0 {
-        return;
-    }
-    let node = random.below(shortest as u64) as usize;
-    match random.below(4) {
-        0 => table.widths[node] = around(random, table.widths[node], u64::MAX),
-        1 => table.sizes[node] = around(random, table.sizes[node], u64::MAX),
-        2 => table.padded[node] = *random.pick(&[0, 1, 2, 128, 255]),
-        _ => table.classes[node] = *random.pick(&[0, 1, node as u16, node as u16 + 1, 65_535]),
+    let whole = table.groups.len() / GROUP_BYTES;
+    if whole > 0 {
+        let node = random.below(whole as u64) as usize;
+        change_group(random, table, node);
     }
 }

@@ -4,6 +4,7 @@ mod buffers;
 mod constructors;
 mod cuts;
 mod files;
+mod groups;
 mod hostile;
 mod pairs;
 mod records;
@@ -49,6 +50,7 @@ pub struct Sweep {
 /// All sweeps, in the order in which they run.
 pub const ALL: &[Sweep] = &[
     Sweep { name: "files", what: "hostile and sound table files, columns in memory", run: files::sweep },
+    Sweep { name: "groups", what: "groups of every length, every byte of them changed", run: groups::sweep },
     Sweep { name: "types", what: "questions about all small types, random and stopped ones", run: types::sweep },
     Sweep {
         name: "records",
@@ -62,7 +64,7 @@ pub const ALL: &[Sweep] = &[
     Sweep { name: "words", what: "words, byte arrays, joins", run: words::sweep },
     Sweep { name: "buffers", what: "buffers and the hash state", run: buffers::sweep },
     Sweep { name: "wide", what: "random types up to the limits", run: wide::sweep },
-    Sweep { name: "hostile", what: "hostile numbers, lengths, columns and facts in every call", run: hostile::sweep },
+    Sweep { name: "hostile", what: "hostile numbers, lengths, columns and groups in every call", run: hostile::sweep },
 ];
 
 /// A table that holds one tree, its facts, and the tree's node.
@@ -77,7 +79,7 @@ pub fn alone(tree: &Rc<Tree>, spread: bool) -> Alone {
     let mut maker = TableMaker::new();
     let node = if spread { maker.add_spread(tree) } else { maker.add_shared(tree) };
     let table = maker.finish();
-    let width = table.widths[usize::from(node)];
+    let width = table.facts(usize::from(node)).width;
     Alone { table, node: u64::from(node), width }
 }
 

@@ -13,7 +13,7 @@ pub fn sweep(run: &mut Run, size: &Size) {
         let mut maker = TableMaker::new();
         let nodes = [maker.add_spread(tree), maker.add_spread(tree)];
         let table = maker.finish();
-        let width = table.widths[usize::from(nodes[0])];
+        let width = table.facts(usize::from(nodes[0])).width;
         for a in 0..1u64 << width {
             for b in 0..1u64 << width {
                 for _ in 0..size.pick(1, 3) {
@@ -29,7 +29,7 @@ pub fn sweep(run: &mut Run, size: &Size) {
             [maker.add_shared(&random.pick(&trees[..]).clone()), maker.add_spread(&random.pick(&trees[..]).clone())];
         let table = maker.finish();
         let side =
-            |random: &mut Random, node: u16| (u64::from(node), random.below(1 << table.widths[usize::from(node)]));
+            |random: &mut Random, node: u16| (u64::from(node), random.below(1 << table.facts(usize::from(node)).width));
         let (a, b) = (side(&mut random, nodes[0]), side(&mut random, nodes[1]));
         compare(run, &mut random, &table, a, b);
     }
@@ -38,7 +38,7 @@ pub fn sweep(run: &mut Run, size: &Size) {
 fn compare(run: &mut Run, random: &mut Random, table: &OwnedColumns, a: (u64, u64), b: (u64, u64)) {
     let side = |random: &mut Random, (node, pattern): (u64, u64)| {
         let (offset, after) = (random.below(64), random.below(3) as usize);
-        let bytes = placed(random, pattern, table.widths[node as usize], offset, after);
+        let bytes = placed(random, pattern, table.facts(node as usize).width, offset, after);
         (bytes, offset, node)
     };
     let (a, b) = (side(random, a), side(random, b));

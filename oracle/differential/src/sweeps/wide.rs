@@ -114,7 +114,7 @@ fn shrink(maker: &mut TableMaker, random: &mut Random, node: u16, seen: &mut Has
 
 /// Every call on a record of `node`.
 fn every_call(run: &mut Run, random: &mut Random, table: &OwnedColumns, node: u64, targets: &BTreeMap<u64, u64>) {
-    let width = table.widths[node as usize].min(530_000);
+    let width = table.facts(node as usize).width.min(530_000);
     let offset = random.below(64);
     let after = random.below(2) as usize;
     let bytes = sparse(random, bytes_for(offset + width) + after);
@@ -156,7 +156,7 @@ fn every_call(run: &mut Run, random: &mut Random, table: &OwnedColumns, node: u6
     }
     let near = random.below(table.count);
     for target in [targets.get(&node).copied().unwrap_or(node), node, 0, near] {
-        let room = before(bytes_for(table.widths[target as usize].min(530_000)) + 1);
+        let room = before(bytes_for(table.facts(target as usize).width.min(530_000)) + 1);
         run.check(&Request { a, node: target, out: &room, ..Request::new(Call::Prune, table.lend()) });
     }
     parents(run, random, table, a);
@@ -172,9 +172,9 @@ fn parents(run: &mut Run, random: &mut Random, table: &OwnedColumns, a: Record) 
             continue;
         }
         left -= 1;
-        let out = before(bytes_for(table.widths[node as usize].min(530_000)));
+        let out = before(bytes_for(table.facts(node as usize).width.min(530_000)));
         let other = if u64::from(l) == a.node { r } else { l };
-        let other_width = table.widths[usize::from(other)].min(530_000);
+        let other_width = table.facts(usize::from(other)).width.min(530_000);
         let offset = random.below(64);
         let bytes = sparse(random, bytes_for(offset + other_width));
         let b = Record { bytes: &bytes, offset, node: other.into() };

@@ -104,7 +104,7 @@ fn joins(run: &mut Run, random: &mut Random, table: &OwnedColumns, nodes: &[u64]
 fn join(run: &mut Run, random: &mut Random, table: &OwnedColumns, a: u64, b: u64, node: u64, out: &[u8]) {
     let side = |random: &mut Random, node: u64| {
         let offset = random.below(64);
-        (random.bytes(bytes_for(offset + table.widths[node as usize])), offset, node)
+        (random.bytes(bytes_for(offset + table.facts(node as usize).width)), offset, node)
     };
     let (a, b) = (side(random, a), side(random, b));
     run.check(&Request {

@@ -30,15 +30,15 @@ use Rattle.nodes.proofs.node_at.Reads as node-at-reads
 use Rattle.codec.proofs.decode.+judge_compact.{statement}
 use Rattle.codec.proofs.decode.+judge_compact.Tie.{close}
 
-abbrev μ : Measures 8 kinds.ps ℕ
-μ κs a = a .1 .1 .1 .1 .1 .1 .1 .1 .1 .1 .1 .0
+abbrev μ : Measures 5 kinds.ps ℕ
+μ κs a = a .1 .1 .1 .1 .1 .1 .1 .1 .0
 
 -- what the function is given at the measure t, and what a call of it asks below t
-abbrev given : ℕ → In 8 kinds.ps
-given t = and 8 kinds.ps (is 8 kinds.ps μ t) own.Pre
+abbrev given : ℕ → In 5 kinds.ps
+given t = and 5 kinds.ps (is 5 kinds.ps μ t) own.Pre
 
-abbrev below : ℕ → In 8 kinds.ps
-below t = and 8 kinds.ps (falls 8 kinds.ps _<_ μ t) own.Pre
+abbrev below : ℕ → In 5 kinds.ps
+below t = and 5 kinds.ps (falls 5 kinds.ps _<_ μ t) own.Pre
 
 -- what the callees ask and ensure
 abbrev called : ℕ → lts.Claims
@@ -54,15 +54,15 @@ called t = (
 )
 
 abbrev Inv-loop : lts.InvT-loop
-Inv-loop kinds lefts rights widths sizes padded classes count src until at node here₀ from₀ here from =
-    Judging (table kinds lefts rights widths sizes padded classes count) src until at node from here
+Inv-loop kinds lefts rights groups count src until at node here₀ from₀ here from =
+    Judging (table kinds lefts rights groups count) src until at node from here
 
 abbrev μ-loop : lts.MeasureT-loop
-μ-loop kinds lefts rights widths sizes padded classes count src until at node here₀ from₀ here from = here
+μ-loop kinds lefts rights groups count src until at node here₀ from₀ here from = here
 
 loop-holds : (t : ℕ) → lts.Need-loop-holds (called t) (given t) own.Post Inv-loop μ-loop
 loop-holds t c =
-    let b = c .before .before .before .before .before .before .before .before in
+    let b = c .before .before .before .before .before in
     record { walk = b .pre .1 .0; falls = omega arith; begins = b .pre .1 .1 .0; whole = refl }
 
 node-at-requires : (t : ℕ) → lts.Need-node-at-requires (called t) (given t) own.Post Inv-loop μ-loop
@@ -74,12 +74,12 @@ module _ (t : ℕ) (c : lts.After-node-at (called t) (given t) own.Post Inv-loop
   turn = c .before
 
   abbrev start : lts.Start (called t) (given t) own.Post Inv-loop μ-loop
-  start = turn .before .before .before .before .before .before .before .before .before
+  start = turn .before .before .before .before .before .before
 
   abbrev of : Table
   of =
       let a = start .args in
-      table (a .kinds .now) (a .lefts .now) (a .rights .now) (a .widths .now) (a .sizes .now) (a .padded .now) (a .classes .now) (a .count)
+      table (a .kinds .now) (a .lefts .now) (a .rights .now) (a .groups .now) (a .count)
 
   here : Here of (turn .loop .here) (c .node-at .result)
   here = record { walk = turn .loop .inv .walk; reads = c .node-at .ensures }
@@ -110,8 +110,8 @@ returns t c =
     (decode-short (here t n) (stream t n) (turn t n .loop .from) (not-true (n .node-at .result .padded) (c .before .if1 .taken))
     (omega (arith, stream-length t n, c .if2 .taken)))
 
-add-t22 : (t : ℕ) → lts.Need-add-t22 (called t) (given t) own.Post Inv-loop μ-loop
-add-t22 t c =
+add-t19 : (t : ℕ) → lts.Need-add-t19 (called t) (given t) own.Post Inv-loop μ-loop
+add-t19 t c =
     let n = c .before .before .before in
     record { fits = omega (arith, turn t n .loop .inv .begins, c .if2 .left, start t n .fits .until .fits) }
 
@@ -314,7 +314,7 @@ pub +judge-compact-spec : {M : Type 1} → statement M
     (node-at-requires t)
     (sub-if2 t)
     (returns t)
-    (add-t22 t)
+    (add-t19 t)
     (returns-2 t)
     (returns-3 t)
     (bit-at-requires t)

@@ -22,12 +22,12 @@ width-of-requires c κs = search needs
 -- Where the record has been written.
 module _ (c : tie.After-read-compact) where
   abbrev start : tie.Start
-  start = c .before .before .before .before .before .before .before .before .before .before .before
+  start = c .before .before .before .before .before .before .before .before
 
 finish-requires : tie.Need-finish-requires
 finish-requires c κs =
     let put = c .before .before .before .before in
-    omega (arith, c .width-of .ensures, start put .pre .1 .1 .1 .inside, put .read-compact .kept .1 .1 .1 .1 .1 .1 .1 .1 .1 .1 .1 .0)
+    omega (arith, c .width-of .ensures, start put .pre .1 .1 .1 .inside, put .read-compact .kept .1 .1 .1 .1 .1 .1 .1 .1 .0)
 
 same-length : tie.Need-same-length
 same-length c = search needs

@@ -31,15 +31,15 @@ use Rattle.nodes.proofs.node_at.Reads as node-at-reads
 use Rattle.codec.proofs.encode.+count_compact.{statement}
 use Rattle.codec.proofs.encode.+count_compact.Tie.{close}
 
-abbrev μ : Measures 8 kinds.ps ℕ
-μ κs a = a .1 .1 .1 .1 .1 .1 .1 .1 .1 .1 .0
+abbrev μ : Measures 5 kinds.ps ℕ
+μ κs a = a .1 .1 .1 .1 .1 .1 .1 .0
 
 -- what the function is given at the measure t, and what a call of it asks below t
-abbrev given : ℕ → In 8 kinds.ps
-given t = and 8 kinds.ps (is 8 kinds.ps μ t) own.Pre
+abbrev given : ℕ → In 5 kinds.ps
+given t = and 5 kinds.ps (is 5 kinds.ps μ t) own.Pre
 
-abbrev below : ℕ → In 8 kinds.ps
-below t = and 8 kinds.ps (falls 8 kinds.ps _<_ μ t) own.Pre
+abbrev below : ℕ → In 5 kinds.ps
+below t = and 5 kinds.ps (falls 5 kinds.ps _<_ μ t) own.Pre
 
 -- what the callees ask and ensure
 abbrev called : ℕ → lts.Claims
@@ -55,17 +55,17 @@ called t = (
 )
 
 abbrev Inv-loop : lts.InvT-loop
-Inv-loop kinds lefts rights widths sizes padded classes count src at node here₀ from₀ counted₀ here from counted =
-    Counting (table kinds lefts rights widths sizes padded classes count) src at node from here counted
+Inv-loop kinds lefts rights groups count src at node here₀ from₀ counted₀ here from counted =
+    Counting (table kinds lefts rights groups count) src at node from here counted
 
 abbrev μ-loop : lts.MeasureT-loop
-μ-loop kinds lefts rights widths sizes padded classes count src at node here₀ from₀ counted₀ here from counted = here
+μ-loop kinds lefts rights groups count src at node here₀ from₀ counted₀ here from counted = here
 
 loop-holds : (t : ℕ) → lts.Need-loop-holds (called t) (given t) own.Post Inv-loop μ-loop
 loop-holds t c =
-    let b = c .before .before .before .before .before .before .before .before in
+    let b = c .before .before .before .before .before in
     let a = b .args in
-    let of = table (a .kinds .now) (a .lefts .now) (a .rights .now) (a .widths .now) (a .sizes .now) (a .padded .now) (a .classes .now) (a .count) in
+    let of = table (a .kinds .now) (a .lefts .now) (a .rights .now) (a .groups .now) (a .count) in
     record {
       walk = b .pre .1 .0;
       falls = omega arith;
@@ -82,12 +82,12 @@ module _ (t : ℕ) (c : lts.After-node-at (called t) (given t) own.Post Inv-loop
   turn = c .before
 
   abbrev start : lts.Start (called t) (given t) own.Post Inv-loop μ-loop
-  start = turn .before .before .before .before .before .before .before .before .before
+  start = turn .before .before .before .before .before .before
 
   abbrev of : Table
   of =
       let a = start .args in
-      table (a .kinds .now) (a .lefts .now) (a .rights .now) (a .widths .now) (a .sizes .now) (a .padded .now) (a .classes .now) (a .count)
+      table (a .kinds .now) (a .lefts .now) (a .rights .now) (a .groups .now) (a .count)
 
   here : Here of (turn .loop .here) (c .node-at .result)
   here = record { walk = turn .loop .inv .walk; reads = c .node-at .ensures }

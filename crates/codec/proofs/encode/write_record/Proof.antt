@@ -24,7 +24,7 @@ returns : tie.Need-returns
 returns c =
     let put = c .before .before .before .before .before .before in
     let known = put .before .before in
-    let a = known .before .before .before .before .before .before .before .before .before .args in
+    let a = known .before .before .before .before .before .before .args in
     let all = compact (tyAt (columns (a .kinds .now) (a .lefts .now) (a .rights .now)) (a .node)) (drop (a .at) (bitsOf (a .src .now))) in
     let counted = put .write-compact .ensures .ends ∙ zero-add (length all) in (
       counted,

@@ -11,15 +11,14 @@ use Rattle.exports.proofs.States.{handed-call, handed-out}
 use Rattle.exports.proofs.hash_states.qv_ctx8.Statement.{statement}
 use Rattle.exports.proofs.hash_states.qv_ctx8.Tie as tie
 
--- The table that the columns make.
+-- The table that the columns and the groups make.
 abbrev of : tie.Start → Table
 of c =
-    table (c .args .kinds .now) (c .args .lefts .now) (c .args .rights .now) (c .args .widths .now) (c .args .sizes .now)
-    (c .args .padded .now) (c .args .classes .now) (c .args .count)
+    table (c .args .kinds .now) (c .args .lefts .now) (c .args .rights .now) (c .args .groups .now) (c .args .count)
 
 -- Where the function begins, seen from the call of `ctx8`.
 abbrev start : tie.After-ctx8 → tie.Start
-start c = c .before .before .before .before .before .before .before .before .before .before .before .before .before
+start c = c .before .before .before .before .before .before .before .before .before .before
 
 -- What `ctx8` says of the struct, said of the slices.
 called : (c : tie.After-ctx8)

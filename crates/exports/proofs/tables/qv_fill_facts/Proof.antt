@@ -14,17 +14,8 @@ tell-done-requires c κs = search (crossing, fill-near)
 same-length : tie.Need-same-length
 same-length c = search needs
 
-same-length-2 : tie.Need-same-length-2
-same-length-2 c = search needs
-
-same-length-3 : tie.Need-same-length-3
-same-length-3 c = search needs
-
-same-length-4 : tie.Need-same-length-4
-same-length-4 c = search needs
-
 returns : tie.Need-returns
-returns c = (search crossing, (search crossing, (search crossing, (search crossing, search crossing))))
+returns c = (search crossing, search crossing)
 
 pub qv-fill-facts-spec : {M : Type 1} → statement M
-qv-fill-facts-spec = tie.close (tie.spec fill-facts-requires tell-done-requires same-length same-length-2 same-length-3 same-length-4 returns)
+qv-fill-facts-spec = tie.close (tie.spec fill-facts-requires tell-done-requires same-length returns)

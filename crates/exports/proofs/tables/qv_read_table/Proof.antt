@@ -23,17 +23,8 @@ same-length-3 c = search needs
 same-length-4 : tie.Need-same-length-4
 same-length-4 c = search needs
 
-same-length-5 : tie.Need-same-length-5
-same-length-5 c = search needs
-
-same-length-6 : tie.Need-same-length-6
-same-length-6 c = search needs
-
-same-length-7 : tie.Need-same-length-7
-same-length-7 c = search needs
-
 returns : tie.Need-returns
-returns c = (search crossing, (search crossing, (search crossing, (search crossing, (search crossing, (search crossing, (search crossing, (search crossing, search crossing))))))))
+returns c = (search crossing, (search crossing, (search crossing, (search crossing, (search crossing, search crossing)))))
 
 pub qv-read-table-spec : {M : Type 1} → statement M
-qv-read-table-spec = tie.close (tie.spec read-table-requires tell-count-requires same-length same-length-2 same-length-3 same-length-4 same-length-5 same-length-6 same-length-7 returns)
+qv-read-table-spec = tie.close (tie.spec read-table-requires tell-count-requires same-length same-length-2 same-length-3 same-length-4 returns)

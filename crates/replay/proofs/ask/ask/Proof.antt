@@ -82,7 +82,7 @@ slice-relend-prefix-made c = search needs
 
 slice-aggregate-made : tie.Need-slice-aggregate-made
 slice-aggregate-made c =
-    let s = c .before .before .before .before .before .before .before .before .before .before .before .before .before .before .before .before .before .before .before .before .before .before .before .before in omega (arith, s .pre .1, length-take (s .args .q .room) (s .args .out .now))
+    let s = c .before .before .before .before .before .before .before .before .before .before .before .before .before .before .before .before .before .before .before .before .before in omega (arith, s .pre .1, length-take (s .args .q .room) (s .args .out .now))
 
 made-requires : tie.Need-made-requires
 made-requires c κs = search needs

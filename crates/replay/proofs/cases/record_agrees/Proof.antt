@@ -30,7 +30,7 @@ slice-aggregate-same-run c = search needs
 
 same-run-requires : tie.Need-same-run-requires
 same-run-requires c κs =
-    let s = c .before .before .before .before .before .before .before .before .before .before .before .before .before .before .before .before .before .before .before .before .before .before .before .before in (s .pre .1 .0, omega (arith, s .pre .1 .1, c .before .before .before .before .before .before .before .before .before .before .before .ask .kept))
+    let s = c .before .before .before .before .before .before .before .before .before .before .before .before .before .before .before .before .before .before .before .before .before in (s .pre .1 .0, omega (arith, s .pre .1 .1, c .before .before .before .before .before .before .before .before .before .before .before .ask .kept))
 
 returns-4 : tie.Need-returns-4
 returns-4 c = search needs

@@ -6,17 +6,16 @@ use Rattle.table.proofs.Types.{padding-swapped}
 use Rattle.table.proofs.questions.pad_right.Statement.{statement}
 use Rattle.table.proofs.questions.pad_right.Tie as tie
 
--- The table that the columns make.
+-- The table that the columns and the groups make.
 abbrev of : tie.Start → Table
 of c =
-    table (c .args .kinds .now) (c .args .lefts .now) (c .args .rights .now) (c .args .widths .now) (c .args .sizes .now)
-    (c .args .padded .now) (c .args .classes .now) (c .args .count)
+    table (c .args .kinds .now) (c .args .lefts .now) (c .args .rights .now) (c .args .groups .now) (c .args .count)
 
 pad-left-requires : tie.Need-pad-left-requires
 pad-left-requires c κs = search needs
 
 returns : tie.Need-returns
-returns c = let s = c .before .before .before .before .before .before .before .before in c .pad-left .ensures ∙ padding-swapped (of s) (s .args .a) (s .args .b)
+returns c = let s = c .before .before .before .before .before in c .pad-left .ensures ∙ padding-swapped (of s) (s .args .a) (s .args .b)
 
 pub pad-right-spec : {M : Type 1} → statement M
 pad-right-spec = tie.close (tie.spec pad-left-requires returns)

@@ -9,15 +9,14 @@ use Rattle.table.proofs.Asking.{not-sound, first-missing, second-missin
 use Rattle.table.proofs.questions.present.Statement.{statement}
 use Rattle.table.proofs.questions.present.Tie as tie
 
--- The table that the columns make.
+-- The table that the columns and the groups make.
 abbrev of : tie.Start → Table
 of c =
-    table (c .args .kinds .now) (c .args .lefts .now) (c .args .rights .now) (c .args .widths .now) (c .args .sizes .now)
-    (c .args .padded .now) (c .args .classes .now) (c .args .count)
+    table (c .args .kinds .now) (c .args .lefts .now) (c .args .rights .now) (c .args .groups .now) (c .args .count)
 
 -- Past the first call the table is sound.
 abbrev entry : tie.After-enum-told → tie.Start
-entry c = c .before .before .before .before .before .before .before .before .before .before
+entry c = c .before .before .before .before .before .before .before
 
 passed : (c : tie.After-enum-told) → accepted (tt {0}) ≡ checkTable (of (entry c))
 passed c = sym (ap doneOf (c .enum-told .given .1)) ∙ c .before .before .sound .ensures
@@ -30,7 +29,7 @@ enum-known-judged c = search needs
 
 returns : tie.Need-returns
 returns c =
-    let s = c .before .before .before .before .before .before .before .before .before .before .before in
+    let s = c .before .before .before .before .before .before .before .before in
     let r = c .before .judged .given in
     not-sound (of s) (s .args .a) (s .args .b) (r .0 .0 .number) (r .0 .0 .place) (sym (ap doneOf (r .1)) ∙ c .before .before .before .sound .ensures)
 

@@ -1,7 +1,9 @@
 -- `table::tables::fill_facts` meets its contract: what is judged to be right is filled in, and a refusal has written nothing. Assumes nothing.
 use borrow.Author.Needs.{needs}
+use Prim.Native.Nat.{ℕ}
 use mathlib.Core.Path.{_≡_, sym, _∙_, ap}
-use Rattle.meaning.specs.Tables.{Columns, Facts, columns, facts}
+use mathlib.Core.List.{List}
+use Rattle.meaning.specs.Tables.{Columns, columns}
 use Rattle.meaning.specs.Ladder.{accepted}
 use Rattle.meaning.specs.TypeCalls.{fillFacts}
 use Rattle.answers.specs.Verdicts.{doneOf}
@@ -9,16 +11,16 @@ use Rattle.table.proofs.Fillings.{fillable, fill-refused, fill-accepted
 use Rattle.table.proofs.tables.fill_facts.Statement.{statement}
 use Rattle.table.proofs.tables.fill_facts.Tie as tie
 
--- The entries and the facts that the columns hold at entry.
+-- The entries that the columns hold at entry, and the groups.
 abbrev entries : tie.Start → Columns
 entries c = columns (c .args .kinds .now) (c .args .lefts .now) (c .args .rights .now)
 
-abbrev told : tie.Start → Facts
-told c = facts (c .args .widths .now) (c .args .sizes .now) (c .args .padded .now) (c .args .classes .now)
+abbrev told : tie.Start → List ℕ
+told c = c .args .groups .now
 
 -- Past the first call the facts can be filled in.
 abbrev entry : tie.After-enum-told → tie.Start
-entry c = c .before .before .before .before .before .before .before .before .before .before .before .before .before .before
+entry c = c .before .before .before .before .before .before .before .before
 
 passed : (c : tie.After-enum-told) → accepted (tt {0}) ≡ fillFacts (entries (entry c)) (entry c .args .count) (told (entry c))
 passed c = sym (ap doneOf (c .enum-told .given .1)) ∙ c .before .before .may-fill .ensures
@@ -32,18 +34,9 @@ enum-known-judged c = search needs
 same-length : tie.Need-same-length
 same-length c = search needs
 
-same-length-2 : tie.Need-same-length-2
-same-length-2 c = search needs
-
-same-length-3 : tie.Need-same-length-3
-same-length-3 c = search needs
-
-same-length-4 : tie.Need-same-length-4
-same-length-4 c = search needs
-
 returns : tie.Need-returns
 returns c =
-    let s = c .before .before .before .before .before .before .before .before .before .before .before .before .before .before .before in
+    let s = c .before .before .before .before .before .before .before .before .before in
     let r = c .before .judged .given in
     fill-refused (entries s) (s .args .count) (told s) (r .0 .0 .number) (r .0 .0 .place) (sym (ap doneOf (r .1)) ∙ c .before .before .before .may-fill .ensures)
 
@@ -51,43 +44,18 @@ enum-told : tie.Need-enum-told
 enum-told c = search needs
 
 fill-requires : tie.Need-fill-requires
-fill-requires c κs =
-    let s = entry (c .before .before .before .before) in fillable (entries s) (s .args .count) (told s) (passed (c .before .before .before .before)) .can-fill
+fill-requires c κs = let s = entry (c .before) in fillable (entries s) (s .args .count) (told s) (passed (c .before)) .can-fill
 
-same-length-5 : tie.Need-same-length-5
-same-length-5 c = search needs
-
-same-length-6 : tie.Need-same-length-6
-same-length-6 c = search needs
-
-same-length-7 : tie.Need-same-length-7
-same-length-7 c = search needs
-
-same-length-8 : tie.Need-same-length-8
-same-length-8 c = search needs
+same-length-2 : tie.Need-same-length-2
+same-length-2 c = search needs
 
 returns-2 : tie.Need-returns-2
 returns-2 c =
-    let s = entry (c .before .before .before .before .before .before .before .before .before .before .before .before .before) in
-    let w = c .before .before .before .before .before .before .before .before .fill in
-    let l = w .last .1 .1 .1 .1 in
-    fill-accepted (entries s) (s .args .count) (told s) (facts (l .0) (l .1 .0) (l .1 .1 .0) (l .1 .1 .1 .0)) (passed (c .before .before .before .before .before .before .before .before .before .before .before .before .before)) (w .ensures)
+    let w = c .before .before .fill in
+    let e = c .before .before .before .before in
+    let s = entry e in
+    fill-accepted (entries s) (s .args .count) (told s) (w .last .1 .1 .1 .1 .0) (passed e) (w .ensures)
 
 pub fill-facts-spec : {M : Type 1} → statement M
 fill-facts-spec =
-    tie.close
-    (tie.spec
-    may-fill-requires
-    enum-known-judged
-    same-length
-    same-length-2
-    same-length-3
-    same-length-4
-    returns
-    enum-told
-    fill-requires
-    same-length-5
-    same-length-6
-    same-length-7
-    same-length-8
-    returns-2)
+    tie.close (tie.spec may-fill-requires enum-known-judged same-length returns enum-told fill-requires same-length-2 returns-2)

@@ -4,7 +4,7 @@ use borrow.Author.Needs.{needs}
 use Prim.Native.Nat.{ℕ}
 use mathlib.Core.Path.{_≡_, sym, _∙_, ap}
 use mathlib.Core.List.{List}
-use Rattle.meaning.specs.Tables.{Columns, Facts, columns, facts}
+use Rattle.meaning.specs.Tables.{Columns, columns}
 use Rattle.meaning.specs.Ladder.{accepted}
 use Rattle.meaning.specs.TypeCalls.{readTable}
 use Rattle.answers.specs.Verdicts.{countOf}
@@ -12,19 +12,19 @@ use Rattle.table.proofs.Readings.{readable, fillable-after, read-kept, 
 use Rattle.table.proofs.tables.read_table.Statement.{statement}
 use Rattle.table.proofs.tables.read_table.Tie as tie
 
--- The file, and the entries and the facts that the columns hold at entry.
+-- The file, the entries that the columns hold at entry, and the groups.
 abbrev file : tie.Start → List ℕ
 file c = c .args .file .now
 
 abbrev entries : tie.Start → Columns
 entries c = columns (c .args .kinds .now) (c .args .lefts .now) (c .args .rights .now)
 
-abbrev told : tie.Start → Facts
-told c = facts (c .args .widths .now) (c .args .sizes .now) (c .args .padded .now) (c .args .classes .now)
+abbrev told : tie.Start → List ℕ
+told c = c .args .groups .now
 
 -- Past the first call the file can be read.
 abbrev entry : tie.After-known-told → tie.Start
-entry c = c .before .before .before .before .before .before .before .before .before .before .before .before .before .before .before .before .before .before .before
+entry c = c .before .before .before .before .before .before .before .before .before .before .before .before .before
 
 abbrev counted : tie.After-known-told → ℕ
 counted c = c .before .judged .given .0 .0
@@ -53,6 +53,25 @@ same-length-3 c = search needs
 same-length-4 : tie.Need-same-length-4
 same-length-4 c = search needs
 
+returns : tie.Need-returns
+returns c =
+    let s = c .before .before .before .before .before .before .before .before .before .before .before .before in
+    let r = c .enum-told .given in
+    let h = c .before .before .may-read .ensures in
+    (h, read-kept (file s) (entries s) (told s) (r .0 .0 .number) (r .0 .0 .place) (sym (ap countOf (r .1)) ∙ h) .1)
+
+write-columns-requires : tie.Need-write-columns-requires
+write-columns-requires c κs =
+    let k = c .before .before .before in let s = entry k in readable (file s) (entries s) (told s) (counted k) (passed k)
+
+fill-requires : tie.Need-fill-requires
+fill-requires c κs =
+    let w = c .before .before .before .before .before .before .before .before .before .before in
+    let k = w .before .before .before .before in
+    let s = entry k in
+    let d = w .write-columns .last .1 in
+    fillable-after (file s) (entries s) (told s) (counted k) (passed k) (columns (d .0) (d .1 .0) (d .1 .1 .0)) (w .write-columns .ensures)
+
 same-length-5 : tie.Need-same-length-5
 same-length-5 c = search needs
 
@@ -62,56 +81,17 @@ same-length-6 c = search needs
 same-length-7 : tie.Need-same-length-7
 same-length-7 c = search needs
 
-returns : tie.Need-returns
-returns c =
-    let s = c .before .before .before .before .before .before .before .before .before .before .before .before .before .before .before .before .before .before in
-    let r = c .enum-told .given in
-    let h = c .before .before .may-read .ensures in
-    (h, read-kept (file s) (entries s) (told s) (r .0 .0 .number) (r .0 .0 .place) (sym (ap countOf (r .1)) ∙ h) .1)
-
-write-columns-requires : tie.Need-write-columns-requires
-write-columns-requires c κs =
-    let s = entry (c .before .before .before) in readable (file s) (entries s) (told s) (counted (c .before .before .before)) (passed (c .before .before .before))
-
-fill-requires : tie.Need-fill-requires
-fill-requires c κs =
-    let k = c .before .before .before .before .before .before .before .before .before .before .before .before .before .before .before .before .before in
-    let s = entry k in
-    let w = c .before .before .before .before .before .before .before .before .before .before .before .before .before .write-columns in
-    let d = w .last .1 in
-    fillable-after (file s) (entries s) (told s) (counted k) (passed k) (columns (d .0) (d .1 .0) (d .1 .1 .0)) (w .ensures)
-
 same-length-8 : tie.Need-same-length-8
 same-length-8 c = search needs
 
-same-length-9 : tie.Need-same-length-9
-same-length-9 c = search needs
-
-same-length-10 : tie.Need-same-length-10
-same-length-10 c = search needs
-
-same-length-11 : tie.Need-same-length-11
-same-length-11 c = search needs
-
-same-length-12 : tie.Need-same-length-12
-same-length-12 c = search needs
-
-same-length-13 : tie.Need-same-length-13
-same-length-13 c = search needs
-
-same-length-14 : tie.Need-same-length-14
-same-length-14 c = search needs
-
 returns-2 : tie.Need-returns-2
 returns-2 c =
-    let k = c .before .before .before .before .before .before .before .before .before .before .before .before .before .before .before .before .before .before .before .before .before .before .before .before .before .before in
+    let v = c .before .before in
+    let w = v .before .before .before .before .before .before .before .before .before .before .before in
+    let k = w .before .before .before .before in
     let s = entry k in
-    let w = c .before .before .before .before .before .before .before .before .before .before .before .before .before .before .before .before .before .before .before .before .before .before .write-columns in
-    let v = c .before .before .before .before .before .before .before .before .fill in
-    let d = w .last .1 in
-    let g = v .last .1 .1 .1 .1 in
-    read-written (file s) (entries s) (told s) (counted k) (columns (d .0) (d .1 .0) (d .1 .1 .0))
-    (facts (g .0) (g .1 .0) (g .1 .1 .0) (g .1 .1 .1 .0)) (passed k) (w .ensures) (v .ensures)
+    let d = w .write-columns .last .1 in
+    read-written (file s) (entries s) (told s) (counted k) (columns (d .0) (d .1 .0) (d .1 .1 .0)) (v .fill .last .1 .1 .1 .1 .0) (passed k) (w .write-columns .ensures) (v .fill .ensures)
 
 pub read-table-spec : {M : Type 1} → statement M
 read-table-spec =
@@ -124,17 +104,11 @@ read-table-spec =
     same-length-2
     same-length-3
     same-length-4
-    same-length-5
-    same-length-6
-    same-length-7
     returns
     write-columns-requires
     fill-requires
+    same-length-5
+    same-length-6
+    same-length-7
     same-length-8
-    same-length-9
-    same-length-10
-    same-length-11
-    same-length-12
-    same-length-13
-    same-length-14
     returns-2)

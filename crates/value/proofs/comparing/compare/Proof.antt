@@ -12,11 +12,10 @@ use Rattle.value.proofs.Gated.{two-held}
 use Rattle.value.proofs.comparing.compare.Statement.{statement}
 use Rattle.value.proofs.comparing.compare.Tie as tie
 
--- The table that the columns make, and the two records.
+-- The table that the columns and the groups make, and the two records.
 abbrev of : tie.Start → Table
 of s =
-    table (s .args .kinds .now) (s .args .lefts .now) (s .args .rights .now) (s .args .widths .now) (s .args .sizes .now)
-    (s .args .padded .now) (s .args .classes .now) (s .args .count)
+    table (s .args .kinds .now) (s .args .lefts .now) (s .args .rights .now) (s .args .groups .now) (s .args .count)
 
 abbrev one : tie.Start → Record
 one s = record-of (s .args .a-bytes .now) (s .args .a-offset) (s .args .a-node)
@@ -24,9 +23,12 @@ one s = record-of (s .args .a-bytes .now) (s .args .a-offset) (s .args .a-node)
 abbrev other : tie.Start → Record
 other s = record-of (s .args .b-bytes .now) (s .args .b-offset) (s .args .b-node)
 
--- The entry of the function, from the place where its first rungs have let it pass.
+-- The entry of the function, from the place where its first rungs were asked, and from the place where they have let it pass.
+abbrev entry : tie.After-two → tie.Start
+entry c = c .before .before .before .before .before .before .before
+
 abbrev start : tie.After-enum-told → tie.Start
-start c = c .before .before .before .before .before .before .before .before .before .before .before .before
+start c = entry (c .before .before)
 
 -- Those rungs, and what they answered.
 abbrev rungs : tie.Start → List Rung
@@ -43,7 +45,7 @@ enum-known-judged c = search needs
 
 returns : tie.Need-returns
 returns c =
-    let s = c .before .before .before .before .before .before .before .before .before .before .before .before .before in
+    let s = entry (c .before .before .before) in
     let r = c .before .judged .given in
     sym (ladder-stop (rungs s) [] (tt {0}) (orderedAt (of s) (one s) (other s)) (r .0 .0 .number) (r .0 .0 .place)
     (sym (c .before .before .before .two .ensures) ∙ ap doneOf (r .1)))

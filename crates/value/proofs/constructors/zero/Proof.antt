@@ -11,15 +11,17 @@ use Rattle.value.proofs.Made.{gate-stopped, handed-on}
 use Rattle.value.proofs.constructors.zero.Statement.{statement}
 use Rattle.value.proofs.constructors.zero.Tie as tie
 
--- The table that the columns make.
+-- The table that the columns and the groups make.
 abbrev of : tie.Start → Table
 of s =
-    table (s .args .kinds .now) (s .args .lefts .now) (s .args .rights .now) (s .args .widths .now) (s .args .sizes .now)
-    (s .args .padded .now) (s .args .classes .now) (s .args .count)
+    table (s .args .kinds .now) (s .args .lefts .now) (s .args .rights .now) (s .args .groups .now) (s .args .count)
 
--- The entry of the function, from the place where its first rungs have let it pass.
+-- The entry of the function, from the place where its first rungs were asked, and from the place where they have let it pass.
+abbrev entry : tie.After-result → tie.Start
+entry c = c .before .before .before .before .before .before
+
 abbrev start : tie.After-enum-told → tie.Start
-start c = c .before .before .before .before .before .before .before .before .before .before .before
+start c = entry (c .before .before)
 
 -- Those rungs, and what they answered.
 abbrev rungs : tie.Start → List Rung
@@ -36,7 +38,7 @@ enum-known-judged c = search needs
 
 returns : tie.Need-returns
 returns c =
-    let s = c .before .before .before .before .before .before .before .before .before .before .before .before in
+    let s = entry (c .before .before .before) in
     let r = c .before .judged .given in
     gate-stopped (rungs s) [] (zeroBits (of s) (s .args .result)) (s .args .out .now) (r .0 .0 .number) (r .0 .0 .place)
     (sym (c .before .before .before .result .ensures) ∙ ap doneOf (r .1))

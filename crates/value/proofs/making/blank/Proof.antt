@@ -16,15 +16,14 @@ use Rattle.value.proofs.Made.{short, done}
 use Rattle.value.proofs.making.blank.Statement.{statement}
 use Rattle.value.proofs.making.blank.Tie as tie
 
--- The table that the columns make.
+-- The table that the columns and the groups make.
 abbrev of : tie.Start → Table
 of s =
-    table (s .args .kinds .now) (s .args .lefts .now) (s .args .rights .now) (s .args .widths .now) (s .args .sizes .now)
-    (s .args .padded .now) (s .args .classes .now) (s .args .count)
+    table (s .args .kinds .now) (s .args .lefts .now) (s .args .rights .now) (s .args .groups .now) (s .args .count)
 
 -- The entry of the function, from the place where the node was read.
 abbrev start : tie.After-node-at → tie.Start
-start c = c .before .before .before .before .before .before .before .before .before
+start c = c .before .before .before .before .before .before
 
 width : (c : tie.After-node-at) → c .node-at .result .width ≡ bits (typeAt (of (start c)) (start c .args .result))
 width c =

@@ -21,11 +21,10 @@ use Rattle.value.proofs.Nodes.{own-width, no-prod, ProdRead, prod-read}
 use Rattle.value.proofs.making.join.Statement.{statement}
 use Rattle.value.proofs.making.join.Tie as tie
 
--- The table that the columns make.
+-- The table that the columns and the groups make.
 abbrev of : tie.Start → Table
 of s =
-    table (s .args .kinds .now) (s .args .lefts .now) (s .args .rights .now) (s .args .widths .now) (s .args .sizes .now)
-    (s .args .padded .now) (s .args .classes .now) (s .args .count)
+    table (s .args .kinds .now) (s .args .lefts .now) (s .args .rights .now) (s .args .groups .now) (s .args .count)
 
 -- The two parts.
 abbrev one : tie.Start → Record
@@ -46,7 +45,7 @@ made s = productBits (of s) (one s) (other s)
 
 -- The entry of the function, from the place where the result was read.
 abbrev start : tie.After-node-at → tie.Start
-start c = c .before .before .before .before .before .before .before .before .before .before .before
+start c = c .before .before .before .before .before .before .before .before
 
 width : (c : tie.After-node-at) → c .node-at .result .width ≡ bits (whole (start c))
 width c =

@@ -9,15 +9,14 @@ use Rattle.value.proofs.Nodes.{no-sum, sum-read, unit-test}
 use Rattle.value.proofs.making.optional.Statement.{statement}
 use Rattle.value.proofs.making.optional.Tie as tie
 
--- The table that the columns make.
+-- The table that the columns and the groups make.
 abbrev of : tie.Start → Table
 of s =
-    table (s .args .kinds .now) (s .args .lefts .now) (s .args .rights .now) (s .args .widths .now) (s .args .sizes .now)
-    (s .args .padded .now) (s .args .classes .now) (s .args .count)
+    table (s .args .kinds .now) (s .args .lefts .now) (s .args .rights .now) (s .args .groups .now) (s .args .count)
 
 -- The entry of the function, from the place where the node was read.
 abbrev start : tie.After-node-at → tie.Start
-start c = c .before .before .before .before .before .before .before .before
+start c = c .before .before .before .before .before
 
 node-at-requires : tie.Need-node-at-requires
 node-at-requires c κs = search needs

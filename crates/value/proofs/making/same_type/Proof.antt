@@ -5,11 +5,10 @@ use Rattle.value.proofs.Nodes.{class-test}
 use Rattle.value.proofs.making.same_type.Statement.{statement}
 use Rattle.value.proofs.making.same_type.Tie as tie
 
--- The table that the columns make.
+-- The table that the columns and the groups make.
 abbrev of : tie.Start → Table
 of s =
-    table (s .args .kinds .now) (s .args .lefts .now) (s .args .rights .now) (s .args .widths .now) (s .args .sizes .now)
-    (s .args .padded .now) (s .args .classes .now) (s .args .count)
+    table (s .args .kinds .now) (s .args .lefts .now) (s .args .rights .now) (s .args .groups .now) (s .args .count)
 
 node-at-requires : tie.Need-node-at-requires
 node-at-requires c κs = search needs
@@ -20,7 +19,7 @@ node-at-requires-2 c κs = search needs
 returns : tie.Need-returns
 returns c =
     let n = c .before .before in
-    let s = n .before .before .before .before .before .before .before .before .before in
+    let s = n .before .before .before .before .before .before in
     class-test (of s) (s .args .a) (s .args .b) (n .before .node-at .result) (n .node-at2 .result) (n .before .node-at .ensures)
     (n .node-at2 .ensures)
 

@@ -22,11 +22,10 @@ use Rattle.value.proofs.Payloads.{side-type, wrapped-length, wrapped-pi
 use Rattle.value.proofs.making.wrap.Statement.{statement}
 use Rattle.value.proofs.making.wrap.Tie as tie
 
--- The table that the columns make.
+-- The table that the columns and the groups make.
 abbrev of : tie.Start → Table
 of s =
-    table (s .args .kinds .now) (s .args .lefts .now) (s .args .rights .now) (s .args .widths .now) (s .args .sizes .now)
-    (s .args .padded .now) (s .args .classes .now) (s .args .count)
+    table (s .args .kinds .now) (s .args .lefts .now) (s .args .rights .now) (s .args .groups .now) (s .args .count)
 
 -- The payload.
 abbrev it : tie.Start → Record
@@ -41,7 +40,7 @@ made s = wrapBits (s .args .right) (of s) (it s) (s .args .result)
 
 -- The entry of the function, from the place where the result was read.
 abbrev start : tie.After-node-at → tie.Start
-start c = c .before .before .before .before .before .before .before .before .before .before
+start c = c .before .before .before .before .before .before .before
 
 width : (c : tie.After-node-at) → c .node-at .result .width ≡ bits (typeAt (of (start c)) (start c .args .result))
 width c =

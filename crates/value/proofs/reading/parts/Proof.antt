@@ -11,18 +11,17 @@ use Rattle.value.proofs.Viewed.{parts-far, parts-none, parts-seen}
 use Rattle.value.proofs.reading.parts.Statement.{statement}
 use Rattle.value.proofs.reading.parts.Tie as tie
 
--- The table that the columns make, and the record.
+-- The table that the columns and the groups make, and the record.
 abbrev of : tie.Start → Table
 of s =
-    table (s .args .kinds .now) (s .args .lefts .now) (s .args .rights .now) (s .args .widths .now) (s .args .sizes .now)
-    (s .args .padded .now) (s .args .classes .now) (s .args .count)
+    table (s .args .kinds .now) (s .args .lefts .now) (s .args .rights .now) (s .args .groups .now) (s .args .count)
 
 abbrev it : tie.Start → Record
 it s = record-of (s .args .bytes .now) (s .args .offset) (s .args .node)
 
 -- The entry of the function, from the place where the node was read.
 abbrev start : tie.After-node-at → tie.Start
-start c = c .before .before .before .before .before .before .before .before .before
+start c = c .before .before .before .before .before .before
 
 width : (c : tie.After-node-at) → c .node-at .result .width ≡ bits (typeOf (of (start c)) (it (start c)))
 width c =
@@ -60,8 +59,8 @@ sides c =
 side-in-requires : tie.Need-side-in-requires
 side-in-requires c κs = search needs
 
-add-t20 : tie.Need-add-t20
-add-t20 c = let b = c .before in omega (arith, near (b .before .before), sides b .total)
+add-t17 : tie.Need-add-t17
+add-t17 c = let b = c .before in omega (arith, near (b .before .before), sides b .total)
 
 side-in-requires-2 : tie.Need-side-in-requires-2
 side-in-requires-2 c κs =
@@ -79,4 +78,4 @@ returns-3 c =
 
 pub parts-spec : {M : Type 1} → statement M
 parts-spec =
-    tie.close (tie.spec node-at-requires sub-if1 returns returns-2 side-in-requires add-t20 side-in-requires-2 returns-3)
+    tie.close (tie.spec node-at-requires sub-if1 returns returns-2 side-in-requires add-t17 side-in-requires-2 returns-3)

@@ -16,18 +16,17 @@ use Rattle.value.proofs.Viewed.{says-same, says-other, payload-far, pay
 use Rattle.value.proofs.reading.payload.Statement.{statement}
 use Rattle.value.proofs.reading.payload.Tie as tie
 
--- The table that the columns make, and the record.
+-- The table that the columns and the groups make, and the record.
 abbrev of : tie.Start → Table
 of s =
-    table (s .args .kinds .now) (s .args .lefts .now) (s .args .rights .now) (s .args .widths .now) (s .args .sizes .now)
-    (s .args .padded .now) (s .args .classes .now) (s .args .count)
+    table (s .args .kinds .now) (s .args .lefts .now) (s .args .rights .now) (s .args .groups .now) (s .args .count)
 
 abbrev it : tie.Start → Record
 it s = record-of (s .args .bytes .now) (s .args .offset) (s .args .node)
 
 -- The entry of the function, from the place where the node was read.
 abbrev start : tie.After-node-at → tie.Start
-start c = c .before .before .before .before .before .before .before .before .before
+start c = c .before .before .before .before .before .before
 
 width : (c : tie.After-node-at) → c .node-at .result .width ≡ bits (typeOf (of (start c)) (it (start c)))
 width c =
@@ -116,12 +115,12 @@ module _ (c : tie.Else3) where
       (ap₂ _-_ (width (read b)) ew)
       en)
 
-sub-t27 : tie.Need-sub-t27
-sub-t27 c =
+sub-t24 : tie.Need-sub-t24
+sub-t24 c =
     let b = c .before .before .before .before in omega (arith, width (read b), parts b .total)
 
-add-t28 : tie.Need-add-t28
-add-t28 c = search needs
+add-t25 : tie.Need-add-t25
+add-t25 c = search needs
 
 side-in-requires : tie.Need-side-in-requires
 side-in-requires c κs =
@@ -133,12 +132,12 @@ returns-4 c =
     let p = parts (e .before .before .before) in
     found e true (c .before .if4 .taken) _ _ (p .right-is) (c .side-in .ensures)
 
-sub-t17 : tie.Need-sub-t17
-sub-t17 c =
+sub-t14 : tie.Need-sub-t14
+sub-t14 c =
     let b = c .before .before .before .before in omega (arith, width (read b), parts b .total)
 
-add-t31 : tie.Need-add-t31
-add-t31 c = search needs
+add-t28 : tie.Need-add-t28
+add-t28 c = search needs
 
 side-in-requires-2 : tie.Need-side-in-requires-2
 side-in-requires-2 c κs =
@@ -163,11 +162,11 @@ payload-spec =
     part-bit-at-end
     bit-at-requires
     returns-3
-    sub-t27
-    add-t28
+    sub-t24
+    add-t25
     side-in-requires
     returns-4
-    sub-t17
-    add-t31
+    sub-t14
+    add-t28
     side-in-requires-2
     returns-5)

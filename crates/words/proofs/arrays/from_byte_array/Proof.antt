@@ -15,11 +15,10 @@ use Rattle.words.proofs.Ranges.{exponent-most, exponent-bytes}
 use Rattle.words.proofs.arrays.from_byte_array.Statement.{statement}
 use Rattle.words.proofs.arrays.from_byte_array.Tie as tie
 
--- The table that the columns make.
+-- The table that the columns and the groups make.
 abbrev of : tie.Start → Table
 of s =
-    table (s .args .kinds .now) (s .args .lefts .now) (s .args .rights .now) (s .args .widths .now) (s .args .sizes .now)
-    (s .args .padded .now) (s .args .classes .now) (s .args .count)
+    table (s .args .kinds .now) (s .args .lefts .now) (s .args .rights .now) (s .args .groups .now) (s .args .count)
 
 exponent-of-requires : tie.Need-exponent-of-requires
 exponent-of-requires c κs = search needs
@@ -27,13 +26,13 @@ exponent-of-requires c κs = search needs
 add-bytes-word : tie.Need-add-bytes-word
 add-bytes-word c =
     let e = c .exponent-of .ensures in
-    let m = exponent-most (length (c .before .before .before .before .before .before .before .before .before .before .args .bytes .now)) in
+    let m = exponent-most (length (c .before .before .before .before .before .before .before .args .bytes .now)) in
     record { fits = omega arith }
 
 bytes-word-requires : tie.Need-bytes-word-requires
 bytes-word-requires c κs =
     λ h.
-    exponent-bytes (c .before .exponent-of .result) (length (c .before .before .before .before .before .before .before .before .before .before .before .args .bytes .now)) (c .before .exponent-of .ensures)
+    exponent-bytes (c .before .exponent-of .result) (length (c .before .before .before .before .before .before .before .before .args .bytes .now)) (c .before .exponent-of .ensures)
     (ltb-true (c .before .exponent-of .result) 29 h)
 
 same-length : tie.Need-same-length
@@ -41,7 +40,7 @@ same-length c = search needs
 
 returns : tie.Need-returns
 returns c =
-    let s = c .before .before .before .before .before .before .before .before .before .before .before .before .before .before in
+    let s = c .before .before .before .before .before .before .before .before .before .before .before in
     let a = s .args in
     let e = c .before .before .before .before .exponent-of .ensures in
     let given = bitsOf (a .bytes .now) in (

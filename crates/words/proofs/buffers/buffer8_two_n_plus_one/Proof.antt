@@ -30,11 +30,10 @@ use Rattle.words.proofs.Rungs.{refuses, short, fulfils, range-stop, ran
 use Rattle.words.proofs.buffers.buffer8_two_n_plus_one.Statement.{statement}
 use Rattle.words.proofs.buffers.buffer8_two_n_plus_one.Tie as tie
 
--- The table that the columns make; the tests of 6 and 7, the call's rungs and the record's bits; the rungs of the gate.
+-- The table that the columns and the groups make; the tests of 6 and 7, the call's rungs and the record's bits; the rungs of the gate.
 abbrev of : tie.Start → Table
 of s =
-    table (s .args .kinds .now) (s .args .lefts .now) (s .args .rights .now) (s .args .widths .now) (s .args .sizes .now)
-    (s .args .padded .now) (s .args .classes .now) (s .args .count)
+    table (s .args .kinds .now) (s .args .lefts .now) (s .args .rights .now) (s .args .groups .now) (s .args .count)
 
 abbrev few : tie.Start → Bool
 few s = ltb (length (s .args .«data» .now)) (2 ^ (s .args .n + 1))
@@ -54,31 +53,35 @@ bits-of s = bufferBits (s .args .n) (s .args .«data» .now)
 abbrev gate : tie.Start → List Rung
 gate s = named (of s) (s .args .result ∷ [])
 
-passed : (c : tie.After-enum-told) → ladder (gate (c .before .before .before .before .before .before .before .before .before .before .before .before)) (tt {0}) ≡ accepted (tt {0})
+-- What the call is given, at any place past the gate.
+abbrev start : tie.After-enum-told → tie.Start
+start c = c .before .before .before .before .before .before .before .before .before
+
+passed : (c : tie.After-enum-told) → ladder (gate (start c)) (tt {0}) ≡ accepted (tt {0})
 passed c = sym (c .before .before .node .ensures) ∙ ap doneOf (c .enum-told .given .1)
 
 -- The limit is 2 to the n + 1.
-limit-is : (c : tie.After-word-width) → 2 * c .word-width .result ≡ 2 ^ (c .before .before .before .before .before .before .before .before .before .before .before .before .before .before .args .n + 1)
+limit-is : (c : tie.After-word-width) → 2 * c .word-width .result ≡ 2 ^ (start (c .before .before) .args .n + 1)
 limit-is c =
-    let e = c .word-width .ensures ∙ word-widths (c .before .before .before .before .before .before .before .before .before .before .before .before .before .before .args .n) (omega arith) in
-    let p = two-pow-succ (c .before .before .before .before .before .before .before .before .before .before .before .before .before .before .args .n) in
-    let d : 2 * c .word-width .result ≡ 2 ^ (c .before .before .before .before .before .before .before .before .before .before .before .before .before .before .args .n) + 2 ^ (c .before .before .before .before .before .before .before .before .before .before .before .before .before .before .args .n) = omega arith in
-    d ∙ sym p ∙ ap (λ (k : ℕ). 2 ^ k) (sym (add-one (c .before .before .before .before .before .before .before .before .before .before .before .before .before .before .args .n)))
+    let e = c .word-width .ensures ∙ word-widths (start (c .before .before) .args .n) (omega arith) in
+    let p = two-pow-succ (start (c .before .before) .args .n) in
+    let d : 2 * c .word-width .result ≡ 2 ^ (start (c .before .before) .args .n) + 2 ^ (start (c .before .before) .args .n) = omega arith in
+    d ∙ sym p ∙ ap (λ (k : ℕ). 2 ^ k) (sym (add-one (start (c .before .before) .args .n)))
 
 limit-most : (n : ℕ) → n < 13 → 2 ^ (n + 1) ≤ 2 ^ 13
 limit-most n h = pow-mono {i = n + 1} {j = 13} (omega arith)
 
-in-range : (c : tie.Else2) → ranges (c .before .before .before .before .before .before .before .before .before .before .before .before .before .before .before) ≡ true
+in-range : (c : tie.Else2) → ranges (start (c .before .before .before)) ≡ true
 in-range c =
-    let s = c .before .before .before .before .before .before .before .before .before .before .before .before .before .before .before in
+    let s = start (c .before .before .before) in
     let e = limit-is (c .before) in
     let l = c .if2 .left in
     and-both (ltb (s .args .n) 13) (few s) (lt-ltb (s .args .n) 13 (c .before .before .if1 .left))
     (lt-ltb (length (s .args .«data» .now)) (2 ^ (s .args .n + 1)) (omega arith))
 
-all-right : (c : tie.Else3) → ladder (rungs (c .before .before .before .before .before .before .before .before .before .before .before .before .before .before .before .before .before)) (tt {0}) ≡ accepted (tt {0})
+all-right : (c : tie.Else3) → ladder (rungs (start (c .before .before .before .before .before))) (tt {0}) ≡ accepted (tt {0})
 all-right c =
-    let s = c .before .before .before .before .before .before .before .before .before .before .before .before .before .before .before .before .before in
+    let s = start (c .before .before .before .before .before) in
     range-pass (gate s) (ranges s) (fits s) (passed (c .before .before .before .before .before)) (in-range (c .before .before))
     (sym (c .before .is-buffer .ensures) ∙ not-false (c .before .is-buffer .result) (c .if3 .left))
 
@@ -90,7 +93,7 @@ enum-known-judged c = search needs
 
 returns : tie.Need-returns
 returns c =
-    let s = c .before .before .before .before .before .before .before .before .before .before .before .before .before in
+    let s = c .before .before .before .before .before .before .before .before .before .before in
     let r = c .before .judged .given .0 .0 in
     refuses (rungs s) (bits-of s) (s .args .out .now) (r .number) (r .place)
     (range-stop (gate s) (ranges s) (fits s) (r .number) (r .place) (sym (c .before .before .before .node .ensures) ∙ ap doneOf (c .before .judged .given .1)))
@@ -100,7 +103,7 @@ enum-told c = search needs
 
 returns-2 : tie.Need-returns-2
 returns-2 c =
-    let s = c .before .before .before .before .before .before .before .before .before .before .before .before .before in
+    let s = start (c .before) in
     refuses (rungs s) (bits-of s) (s .args .out .now) 6 0
     (range-missed (gate s) (ranges s) (fits s) (passed (c .before)) (ap (λ (b : Bool). b && few s) (le-ltb (s .args .n) 13 (c .if1 .taken))))
 
@@ -108,11 +111,11 @@ word-width-requires : tie.Need-word-width-requires
 word-width-requires c κs = search needs
 
 mul-limit : tie.Need-mul-limit
-mul-limit c = let e = limit-is c in let m = limit-most (c .before .before .before .before .before .before .before .before .before .before .before .before .before .before .args .n) (c .before .if1 .left) in record { fits = omega arith }
+mul-limit c = let e = limit-is c in let m = limit-most (start (c .before .before) .args .n) (c .before .if1 .left) in record { fits = omega arith }
 
 returns-3 : tie.Need-returns-3
 returns-3 c =
-    let s = c .before .before .before .before .before .before .before .before .before .before .before .before .before .before .before in
+    let s = start (c .before .before .before) in
     let e = limit-is (c .before) in
     let l = c .if2 .taken in
     refuses (rungs s) (bits-of s) (s .args .out .now) 6 0
@@ -121,11 +124,11 @@ returns-3 c =
 
 is-buffer-requires : tie.Need-is-buffer-requires
 is-buffer-requires c κs =
-    let p = named-passed (of (c .before .before .before .before .before .before .before .before .before .before .before .before .before .before .before)) (c .before .before .before .before .before .before .before .before .before .before .before .before .before .before .before .args .result ∷ []) (passed (c .before .before .before)) in (p .0, (p .1 .0 .here, c .before .before .if1 .left))
+    let p = named-passed (of (start (c .before .before .before))) (start (c .before .before .before) .args .result ∷ []) (passed (c .before .before .before)) in (p .0, (p .1 .0 .here, c .before .before .if1 .left))
 
 returns-4 : tie.Need-returns-4
 returns-4 c =
-    let s = c .before .before .before .before .before .before .before .before .before .before .before .before .before .before .before .before .before in
+    let s = start (c .before .before .before .before .before) in
     refuses (rungs s) (bits-of s) (s .args .out .now) 7 0
     (range-shape (gate s) (ranges s) (fits s) (passed (c .before .before .before .before .before)) (in-range (c .before .before))
     (sym (c .before .is-buffer .ensures) ∙ not-true (c .before .is-buffer .result) (c .if3 .taken)))
@@ -136,12 +139,12 @@ buffer-width-requires c κs = search needs
 add-if4 : tie.Need-add-if4
 add-if4 c =
     let e = c .buffer-width .ensures in
-    let m = buffer-small (c .before .before .before .before .before .before .before .before .before .before .before .before .before .before .before .before .before .before .args .n) (c .before .before .before .before .before .if1 .left) in
+    let m = buffer-small (start (c .before .before .before .before .before .before) .args .n) (c .before .before .before .before .before .if1 .left) in
     record { fits = omega arith }
 
 returns-5 : tie.Need-returns-5
 returns-5 c =
-    let s = c .before .before .before .before .before .before .before .before .before .before .before .before .before .before .before .before .before .before .before in
+    let s = start (c .before .before .before .before .before .before .before) in
     let e = c .before .buffer-width .ensures in
     let l = length-buffer (s .args .n) (s .args .«data» .now) in
     short (rungs s) (bits-of s) (s .args .out .now) (all-right (c .before .before)) (omega arith)
@@ -149,7 +152,7 @@ returns-5 c =
 write-buffer-requires : tie.Need-write-buffer-requires
 write-buffer-requires c κs =
     let e = c .before .before .buffer-width .ensures in
-    let m = buffer-small (c .before .before .before .before .before .before .before .before .before .before .before .before .before .before .before .before .before .before .before .before .args .n) (c .before .before .before .before .before .before .before .if1 .left) in
+    let m = buffer-small (start (c .before .before .before .before .before .before .before .before) .args .n) (c .before .before .before .before .before .before .before .if1 .left) in
     let r = c .before .if4 .left in
     (c .before .before .before .before .before .before .before .if1 .left, record { inside = omega arith; counted = omega arith })
 
@@ -161,7 +164,7 @@ same-length c = search needs
 
 returns-6 : tie.Need-returns-6
 returns-6 c =
-    let s = c .before .before .before .before .before .before .before .before .before .before .before .before .before .before .before .before .before .before .before .before .before .before .before .before .before .before .before in
+    let s = start (c .before .before .before .before .before .before .before .before .before .before .before .before .before .before .before) in
     let a = s .args in
     let w = c .before .before .before .before .before .before .before .before .before .buffer-width .result in
     let e : w ≡ bits (buffer (a .n)) = c .before .before .before .before .before .before .before .before .before .buffer-width .ensures in

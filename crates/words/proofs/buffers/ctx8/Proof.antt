@@ -20,11 +20,10 @@ use Rattle.words.proofs.Rungs.{refuses, short, fulfils, range-stop, ran
 use Rattle.words.proofs.buffers.ctx8.Statement.{statement}
 use Rattle.words.proofs.buffers.ctx8.Tie as tie
 
--- The table that the columns make; the tests of 6 and 7, the call's rungs and the record's bits; the rungs of the gate.
+-- The table that the columns and the groups make; the tests of 6 and 7, the call's rungs and the record's bits; the rungs of the gate.
 abbrev of : tie.Start → Table
 of s =
-    table (s .args .kinds .now) (s .args .lefts .now) (s .args .rights .now) (s .args .widths .now) (s .args .sizes .now)
-    (s .args .padded .now) (s .args .classes .now) (s .args .count)
+    table (s .args .kinds .now) (s .args .lefts .now) (s .args .rights .now) (s .args .groups .now) (s .args .count)
 
 abbrev ranges : tie.Start → Bool
 ranges s = leb (s .args .state .used) 63
@@ -45,12 +44,16 @@ gate s = named (of s) (s .args .result ∷ [])
 many : (s : tie.Start) → length (bits-of s) ≡ 830
 many s = let full : length (s .args .state .midstate) ≡ 32 = search needs in length-state (stateOf (s .args .state)) full
 
-passed : (c : tie.After-enum-told) → ladder (gate (c .before .before .before .before .before .before .before .before .before .before .before)) (tt {0}) ≡ accepted (tt {0})
+-- What the call is given, at any place past the gate.
+abbrev start : tie.After-enum-told → tie.Start
+start c = c .before .before .before .before .before .before .before .before
+
+passed : (c : tie.After-enum-told) → ladder (gate (start c)) (tt {0}) ≡ accepted (tt {0})
 passed c = sym (c .before .before .node .ensures) ∙ ap doneOf (c .enum-told .given .1)
 
-all-right : (c : tie.Else2) → ladder (rungs (c .before .before .before .before .before .before .before .before .before .before .before .before .before .before)) (tt {0}) ≡ accepted (tt {0})
+all-right : (c : tie.Else2) → ladder (rungs (start (c .before .before .before))) (tt {0}) ≡ accepted (tt {0})
 all-right c =
-    let s = c .before .before .before .before .before .before .before .before .before .before .before .before .before .before in
+    let s = start (c .before .before .before) in
     range-pass (gate s) (ranges s) (fits s) (passed (c .before .before .before)) (le-leb (s .args .state .used) 63 (c .before .before .if1 .left))
     (sym (c .before .is-ctx8 .ensures) ∙ not-false (c .before .is-ctx8 .result) (c .if2 .left))
 
@@ -62,7 +65,7 @@ enum-known-judged c = search needs
 
 returns : tie.Need-returns
 returns c =
-    let s = c .before .before .before .before .before .before .before .before .before .before .before .before in
+    let s = c .before .before .before .before .before .before .before .before .before in
     let r = c .before .judged .given .0 .0 in
     refuses (rungs s) (bits-of s) (s .args .out .now) (r .number) (r .place)
     (range-stop (gate s) (ranges s) (fits s) (r .number) (r .place) (sym (c .before .before .before .node .ensures) ∙ ap doneOf (c .before .judged .given .1)))
@@ -72,24 +75,24 @@ enum-told c = search needs
 
 returns-2 : tie.Need-returns-2
 returns-2 c =
-    let s = c .before .before .before .before .before .before .before .before .before .before .before .before in
+    let s = start (c .before) in
     refuses (rungs s) (bits-of s) (s .args .out .now) 6 0
     (range-missed (gate s) (ranges s) (fits s) (passed (c .before)) (lt-leb (s .args .state .used) 63 (c .if1 .taken)))
 
 is-ctx8-requires : tie.Need-is-ctx8-requires
 is-ctx8-requires c κs =
-    let p = named-passed (of (c .before .before .before .before .before .before .before .before .before .before .before .before)) (c .before .before .before .before .before .before .before .before .before .before .before .before .args .result ∷ []) (passed (c .before)) in (p .0, p .1 .0 .here)
+    let p = named-passed (of (start (c .before))) (start (c .before) .args .result ∷ []) (passed (c .before)) in (p .0, p .1 .0 .here)
 
 returns-3 : tie.Need-returns-3
 returns-3 c =
-    let s = c .before .before .before .before .before .before .before .before .before .before .before .before .before .before in
+    let s = start (c .before .before .before) in
     refuses (rungs s) (bits-of s) (s .args .out .now) 7 0
     (range-shape (gate s) (ranges s) (fits s) (passed (c .before .before .before)) (le-leb (s .args .state .used) 63 (c .before .before .if1 .left))
     (sym (c .before .is-ctx8 .ensures) ∙ not-true (c .before .is-ctx8 .result) (c .if2 .taken)))
 
 returns-4 : tie.Need-returns-4
 returns-4 c =
-    let s = c .before .before .before .before .before .before .before .before .before .before .before .before .before .before .before in
+    let s = start (c .before .before .before .before) in
     let l = many s in
     let r = c .if3 .taken in
     short (rungs s) (bits-of s) (s .args .out .now) (all-right (c .before)) (omega arith)
@@ -102,7 +105,7 @@ same-length c = search needs
 
 returns-5 : tie.Need-returns-5
 returns-5 c =
-    let s = c .before .before .before .before .before .before .before .before .before .before .before .before .before .before .before .before .before .before .before in
+    let s = start (c .before .before .before .before .before .before .before .before) in
     let l = many s in
     let r = c .before .before .before .before .if3 .left in
     fulfils (rungs s) (bits-of s) (s .args .out .now) (all-right (c .before .before .before .before .before)) (omega arith) 830 (sym l) (c .before .before .write-state .last .0)

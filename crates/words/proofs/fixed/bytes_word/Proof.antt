@@ -23,11 +23,10 @@ use Rattle.words.proofs.Rungs.{refuses, short, fulfils, range-stop, ran
 use Rattle.words.proofs.fixed.bytes_word.Statement.{statement}
 use Rattle.words.proofs.fixed.bytes_word.Tie as tie
 
--- The table that the columns make; the test of 7, the call's rungs and the record's bits; the rungs of the gate.
+-- The table that the columns and the groups make; the test of 7, the call's rungs and the record's bits; the rungs of the gate.
 abbrev of : tie.Start → Table
 of s =
-    table (s .args .kinds .now) (s .args .lefts .now) (s .args .rights .now) (s .args .widths .now) (s .args .sizes .now)
-    (s .args .padded .now) (s .args .classes .now) (s .args .count)
+    table (s .args .kinds .now) (s .args .lefts .now) (s .args .rights .now) (s .args .groups .now) (s .args .count)
 
 abbrev right : tie.Start → Bool
 right s = isWord (s .args .n) (typeAt (of s) (s .args .result))
@@ -41,23 +40,27 @@ bits-of s = bitsOf (s .args .bytes .now)
 abbrev gate : tie.Start → List Rung
 gate s = named (of s) (s .args .result ∷ [])
 
-passed : (c : tie.After-enum-told) → ladder (gate (c .before .before .before .before .before .before .before .before .before .before .before .before)) (tt {0}) ≡ accepted (tt {0})
+-- What the call is given, at any place past the gate.
+abbrev start : tie.After-enum-told → tie.Start
+start c = c .before .before .before .before .before .before .before .before .before
+
+passed : (c : tie.After-enum-told) → ladder (gate (start c)) (tt {0}) ≡ accepted (tt {0})
 passed c = sym (c .before .before .node .ensures) ∙ ap doneOf (c .enum-told .given .1)
 
-in-range : (c : tie.Else1) → c .before .before .before .before .before .before .before .before .before .before .before .before .before .args .fits ≡ true
-in-range c = not-false (c .before .before .before .before .before .before .before .before .before .before .before .before .before .args .fits) (c .if1 .left)
+in-range : (c : tie.Else1) → start (c .before) .args .fits ≡ true
+in-range c = not-false (start (c .before) .args .fits) (c .if1 .left)
 
-is-right : (c : tie.Else2) → right (c .before .before .before .before .before .before .before .before .before .before .before .before .before .before .before) ≡ true
+is-right : (c : tie.Else2) → right (start (c .before .before .before)) ≡ true
 is-right c = sym (c .before .is-word .ensures) ∙ not-false (c .before .is-word .result) (c .if2 .left)
 
-all-right : (c : tie.Else2) → ladder (rungs (c .before .before .before .before .before .before .before .before .before .before .before .before .before .before .before)) (tt {0}) ≡ accepted (tt {0})
+all-right : (c : tie.Else2) → ladder (rungs (start (c .before .before .before))) (tt {0}) ≡ accepted (tt {0})
 all-right c =
-    let s = c .before .before .before .before .before .before .before .before .before .before .before .before .before .before .before in range-pass (gate s) (s .args .fits) (right s) (passed (c .before .before .before)) (in-range (c .before .before)) (is-right c)
+    let s = start (c .before .before .before) in range-pass (gate s) (s .args .fits) (right s) (passed (c .before .before .before)) (in-range (c .before .before)) (is-right c)
 
 -- The bytes are those of a word that is not too wide.
-narrow : (c : tie.Else2) → 8 * length (c .before .before .before .before .before .before .before .before .before .before .before .before .before .before .before .args .bytes .now) ≤ 524288
+narrow : (c : tie.Else2) → 8 * length (start (c .before .before .before) .args .bytes .now) ≤ 524288
 narrow c =
-    let s = c .before .before .before .before .before .before .before .before .before .before .before .before .before .before .before in
+    let s = start (c .before .before .before) in
     let p = named-passed (of s) (s .args .result ∷ []) (passed (c .before .before .before)) .1 .0 .narrow in
     let b : bits (typeAt (of s) (s .args .result)) ≡ 2 ^ (s .args .n) =
     ap bits (isWord-word (s .args .n) (typeAt (of s) (s .args .result)) (is-right c)) ∙ bits-word (s .args .n) in
@@ -72,7 +75,7 @@ enum-known-judged c = search needs
 
 returns : tie.Need-returns
 returns c =
-    let s = c .before .before .before .before .before .before .before .before .before .before .before .before .before in
+    let s = c .before .before .before .before .before .before .before .before .before .before in
     let r = c .before .judged .given .0 .0 in
     refuses (rungs s) (bits-of s) (s .args .out .now) (r .number) (r .place)
     (range-stop (gate s) (s .args .fits) (right s) (r .number) (r .place)
@@ -83,24 +86,24 @@ enum-told c = search needs
 
 returns-2 : tie.Need-returns-2
 returns-2 c =
-    let s = c .before .before .before .before .before .before .before .before .before .before .before .before .before in
+    let s = start (c .before) in
     refuses (rungs s) (bits-of s) (s .args .out .now) 6 0
     (range-missed (gate s) (s .args .fits) (right s) (passed (c .before)) (not-true (s .args .fits) (c .if1 .taken)))
 
 is-word-requires : tie.Need-is-word-requires
 is-word-requires c κs =
-    let p = named-passed (of (c .before .before .before .before .before .before .before .before .before .before .before .before .before)) (c .before .before .before .before .before .before .before .before .before .before .before .before .before .args .result ∷ []) (passed (c .before)) in (p .0, p .1 .0 .here)
+    let p = named-passed (of (start (c .before))) (start (c .before) .args .result ∷ []) (passed (c .before)) in (p .0, p .1 .0 .here)
 
 returns-3 : tie.Need-returns-3
 returns-3 c =
-    let s = c .before .before .before .before .before .before .before .before .before .before .before .before .before .before .before in
+    let s = start (c .before .before .before) in
     refuses (rungs s) (bits-of s) (s .args .out .now) 7 0
     (range-shape (gate s) (s .args .fits) (right s) (passed (c .before .before .before)) (in-range (c .before .before))
     (sym (c .before .is-word .ensures) ∙ not-true (c .before .is-word .result) (c .if2 .taken)))
 
 returns-4 : tie.Need-returns-4
 returns-4 c =
-    let s = c .before .before .before .before .before .before .before .before .before .before .before .before .before .before .before .before in
+    let s = start (c .before .before .before .before) in
     let l = length-bitsOf (s .args .bytes .now) in
     short (rungs s) (bits-of s) (s .args .out .now) (all-right (c .before)) (omega arith)
 
@@ -118,7 +121,7 @@ same-length c = search needs
 
 returns-5 : tie.Need-returns-5
 returns-5 c =
-    let s = c .before .before .before .before .before .before .before .before .before .before .before .before .before .before .before .before .before .before .before .before in
+    let s = start (c .before .before .before .before .before .before .before .before) in
     let l = length-bitsOf (s .args .bytes .now) in
     let r = c .before .before .before .before .if3 .left in
     fulfils (rungs s) (bits-of s) (s .args .out .now) (all-right (c .before .before .before .before .before)) (omega arith) (8 * length (s .args .bytes .now)) (sym l)

@@ -16,14 +16,13 @@ use Rattle.words.proofs.Ranges.{eight-times}
 use Rattle.words.proofs.fixed.fixed_word.Statement.{statement}
 use Rattle.words.proofs.fixed.fixed_word.Tie as tie
 
--- The table that the columns make.
+-- The table that the columns and the groups make.
 abbrev of : tie.Start → Table
 of s =
-    table (s .args .kinds .now) (s .args .lefts .now) (s .args .rights .now) (s .args .widths .now) (s .args .sizes .now)
-    (s .args .padded .now) (s .args .classes .now) (s .args .count)
+    table (s .args .kinds .now) (s .args .lefts .now) (s .args .rights .now) (s .args .groups .now) (s .args .count)
 
-asked : (c : tie.After-word-width) → c .word-width .result ≡ 2 ^ (c .before .before .before .before .before .before .before .before .before .before .args .n - 3)
-asked c = c .word-width .ensures ∙ word-widths (c .before .before .before .before .before .before .before .before .before .before .args .n - 3) (omega arith)
+asked : (c : tie.After-word-width) → c .word-width .result ≡ 2 ^ (c .before .before .before .before .before .before .before .args .n - 3)
+asked c = c .word-width .ensures ∙ word-widths (c .before .before .before .before .before .before .before .args .n - 3) (omega arith)
 
 sub-word-width : tie.Need-sub-word-width
 sub-word-width c = search needs
@@ -34,15 +33,15 @@ word-width-requires c κs = omega arith
 bytes-word-requires : tie.Need-bytes-word-requires
 bytes-word-requires c κs =
     λ h.
-    ap (λ (k : ℕ). 8 * k) (eqb-true (length (c .before .before .before .before .before .before .before .before .before .before .before .args .bytes .now)) (c .before .word-width .result) h ∙ asked (c .before))
-    ∙ eight-times (c .before .before .before .before .before .before .before .before .before .before .before .args .n) (c .before .before .before .before .before .before .before .before .before .before .before .pre .0)
+    ap (λ (k : ℕ). 8 * k) (eqb-true (length (c .before .before .before .before .before .before .before .before .args .bytes .now)) (c .before .word-width .result) h ∙ asked (c .before))
+    ∙ eight-times (c .before .before .before .before .before .before .before .before .args .n) (c .before .before .before .before .before .before .before .before .pre .0)
 
 same-length : tie.Need-same-length
 same-length c = search needs
 
 returns : tie.Need-returns
 returns c =
-    let s = c .before .before .before .before .before .before .before .before .before .before .before .before .before .before in
+    let s = c .before .before .before .before .before .before .before .before .before .before .before in
     let a = s .args in
     let e = asked (c .before .before .before .before) in
     let given = bitsOf (a .bytes .now) in (

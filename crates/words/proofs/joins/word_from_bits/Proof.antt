@@ -27,11 +27,10 @@ use Rattle.words.proofs.Streams.{rest-take, read-refuses, read-early, r
 use Rattle.words.proofs.joins.word_from_bits.Statement.{statement}
 use Rattle.words.proofs.joins.word_from_bits.Tie as tie
 
--- The table that the columns make, and the stream; the tests of 6 and 7, the call's rungs and what it decodes; the rungs of the gate.
+-- The table that the columns and the groups make, and the stream; the tests of 6 and 7, the call's rungs and what it decodes; the rungs of the gate.
 abbrev of : tie.Start → Table
 of s =
-    table (s .args .kinds .now) (s .args .lefts .now) (s .args .rights .now) (s .args .widths .now) (s .args .sizes .now)
-    (s .args .padded .now) (s .args .classes .now) (s .args .count)
+    table (s .args .kinds .now) (s .args .lefts .now) (s .args .rights .now) (s .args .groups .now) (s .args .count)
 
 abbrev source : tie.Start → Stream
 source s = stream-of (s .args .bytes .now) (s .args .length) (s .args .position)
@@ -54,25 +53,29 @@ rungs s = wordReadRungs (of s) (source s) (s .args .n) (s .args .node)
 abbrev found : tie.Start → Decoded
 found s = paddedIn (of s) (source s) (s .args .node)
 
-passed : (c : tie.After-enum-told) → ladder (gate (c .before .before .before .before .before .before .before .before .before .before .before .before)) (tt {0}) ≡ accepted (tt {0})
+-- What the call is given, at any place past the gate.
+abbrev start : tie.After-enum-told → tie.Start
+start c = c .before .before .before .before .before .before .before .before .before
+
+passed : (c : tie.After-enum-told) → ladder (gate (start c)) (tt {0}) ≡ accepted (tt {0})
 passed c = sym (c .before .before .stream .ensures) ∙ ap doneOf (c .enum-told .given .1)
 
 -- The stream lies within its bytes, and the position within the stream.
-inside : (c : tie.After-enum-told) → Streamed (source (c .before .before .before .before .before .before .before .before .before .before .before .before))
-inside c = stream-passed (of (c .before .before .before .before .before .before .before .before .before .before .before .before)) (source (c .before .before .before .before .before .before .before .before .before .before .before .before)) (c .before .before .before .before .before .before .before .before .before .before .before .before .args .node) (passed c) .2
+inside : (c : tie.After-enum-told) → Streamed (source (start c))
+inside c = stream-passed (of (start c)) (source (start c)) (start c .args .node) (passed c) .2
 
-is-right : (c : tie.Else2) → fits (c .before .before .before .before .before .before .before .before .before .before .before .before .before .before .before) ≡ true
+is-right : (c : tie.Else2) → fits (start (c .before .before .before)) ≡ true
 is-right c = sym (c .before .is-word .ensures) ∙ not-false (c .before .is-word .result) (c .if2 .left)
 
-all-right : (c : tie.Else2) → ladder (rungs (c .before .before .before .before .before .before .before .before .before .before .before .before .before .before .before)) (tt {0}) ≡ accepted (tt {0})
+all-right : (c : tie.Else2) → ladder (rungs (start (c .before .before .before))) (tt {0}) ≡ accepted (tt {0})
 all-right c =
-    let s = c .before .before .before .before .before .before .before .before .before .before .before .before .before .before .before in
+    let s = start (c .before .before .before) in
     range-pass (gate s) (ranges s) (fits s) (passed (c .before .before .before)) (lt-ltb (s .args .n) 32 (c .before .before .if1 .left)) (is-right c)
 
 -- The width is the type's, and small.
-width-is : (c : tie.After-word-width) → c .word-width .result ≡ bits (type (c .before .before .before .before .before .before .before .before .before .before .before .before .before .before .before .before))
+width-is : (c : tie.After-word-width) → c .word-width .result ≡ bits (type (start (c .before .before .before .before)))
 width-is c =
-    let s = c .before .before .before .before .before .before .before .before .before .before .before .before .before .before .before .before in
+    let s = start (c .before .before .before .before) in
     c .word-width .ensures
     ∙ word-widths (s .args .n) (c .before .before .before .if1 .left)
     ∙ sym (ap bits (isWord-word (s .args .n) (type s) (is-right (c .before))) ∙ bits-word (s .args .n))
@@ -80,13 +83,13 @@ width-is c =
 narrow : (c : tie.After-word-width) → c .word-width .result ≤ 524288
 narrow c =
     let e = width-is c in
-    let p = stream-passed (of (c .before .before .before .before .before .before .before .before .before .before .before .before .before .before .before .before)) (source (c .before .before .before .before .before .before .before .before .before .before .before .before .before .before .before .before)) (c .before .before .before .before .before .before .before .before .before .before .before .before .before .before .before .before .args .node) (passed (c .before .before .before .before)) .1 .narrow in
+    let p = stream-passed (of (start (c .before .before .before .before))) (source (start (c .before .before .before .before))) (start (c .before .before .before .before) .args .node) (passed (c .before .before .before .before)) .1 .narrow in
     omega arith
 
 -- What is decoded where the stream is long enough.
-whole : (c : tie.Else3) → found (c .before .before .before .before .before .before .before .before .before .before .before .before .before .before .before .before .before) ≡ decoded (take (bits (type (c .before .before .before .before .before .before .before .before .before .before .before .before .before .before .before .before .before))) (restOf (source (c .before .before .before .before .before .before .before .before .before .before .before .before .before .before .before .before .before)))) (bits (type (c .before .before .before .before .before .before .before .before .before .before .before .before .before .before .before .before .before)))
+whole : (c : tie.Else3) → found (start (c .before .before .before .before .before)) ≡ decoded (take (bits (type (start (c .before .before .before .before .before)))) (restOf (source (start (c .before .before .before .before .before))))) (bits (type (start (c .before .before .before .before .before))))
 whole c =
-    let s = c .before .before .before .before .before .before .before .before .before .before .before .before .before .before .before .before .before in
+    let s = start (c .before .before .before .before .before) in
     let i = inside (c .before .before .before .before .before) in
     let l = rest-length (source s) (i .ends) in
     let e = width-is (c .before) in
@@ -94,17 +97,17 @@ whole c =
     padded-whole (type s) (restOf (source s)) (omega arith)
 
 same-bits : (c : tie.Else3)
-    → take (bits (type (c .before .before .before .before .before .before .before .before .before .before .before .before .before .before .before .before .before))) (restOf (source (c .before .before .before .before .before .before .before .before .before .before .before .before .before .before .before .before .before))) ≡ take (c .before .word-width .result) (drop (c .before .before .before .before .before .before .before .before .before .before .before .before .before .before .before .before .before .args .position) (bitsOf (c .before .before .before .before .before .before .before .before .before .before .before .before .before .before .before .before .before .args .bytes .now)))
+    → take (bits (type (start (c .before .before .before .before .before)))) (restOf (source (start (c .before .before .before .before .before)))) ≡ take (c .before .word-width .result) (drop (start (c .before .before .before .before .before) .args .position) (bitsOf (start (c .before .before .before .before .before) .args .bytes .now)))
 same-bits c =
-    let s = c .before .before .before .before .before .before .before .before .before .before .before .before .before .before .before .before .before in
+    let s = start (c .before .before .before .before .before) in
     let i = inside (c .before .before .before .before .before) .begins in
     let e = width-is (c .before) in
     let r = c .if3 .left in
     ap (λ (w : ℕ). take w (restOf (source s))) (sym e) ∙ rest-take (source s) (c .before .word-width .result) (omega arith)
 
-count-is : (c : tie.Else3) → length (take (bits (type (c .before .before .before .before .before .before .before .before .before .before .before .before .before .before .before .before .before))) (restOf (source (c .before .before .before .before .before .before .before .before .before .before .before .before .before .before .before .before .before)))) ≡ c .before .word-width .result
+count-is : (c : tie.Else3) → length (take (bits (type (start (c .before .before .before .before .before)))) (restOf (source (start (c .before .before .before .before .before))))) ≡ c .before .word-width .result
 count-is c =
-    let s = c .before .before .before .before .before .before .before .before .before .before .before .before .before .before .before .before .before in
+    let s = start (c .before .before .before .before .before) in
     let i = inside (c .before .before .before .before .before) in
     let l = rest-length (source s) (i .ends) in
     let e = width-is (c .before) in
@@ -119,7 +122,7 @@ enum-known-judged c = search needs
 
 returns : tie.Need-returns
 returns c =
-    let s = c .before .before .before .before .before .before .before .before .before .before .before .before .before in
+    let s = c .before .before .before .before .before .before .before .before .before .before in
     let r = c .before .judged .given .0 .0 in
     read-refuses (rungs s) (source s) (found s) (s .args .out .now) (r .number) (r .place)
     (range-stop (gate s) (ranges s) (fits s) (r .number) (r .place) (sym (c .before .before .before .stream .ensures) ∙ ap doneOf (c .before .judged .given .1)))
@@ -129,17 +132,17 @@ enum-told c = search needs
 
 returns-2 : tie.Need-returns-2
 returns-2 c =
-    let s = c .before .before .before .before .before .before .before .before .before .before .before .before .before in
+    let s = start (c .before) in
     read-refuses (rungs s) (source s) (found s) (s .args .out .now) 6 0
     (range-missed (gate s) (ranges s) (fits s) (passed (c .before)) (le-ltb (s .args .n) 32 (c .if1 .taken)))
 
 is-word-requires : tie.Need-is-word-requires
 is-word-requires c κs =
-    let p = stream-passed (of (c .before .before .before .before .before .before .before .before .before .before .before .before .before)) (source (c .before .before .before .before .before .before .before .before .before .before .before .before .before)) (c .before .before .before .before .before .before .before .before .before .before .before .before .before .args .node) (passed (c .before)) in (p .0, p .1 .here)
+    let p = stream-passed (of (start (c .before))) (source (start (c .before))) (start (c .before) .args .node) (passed (c .before)) in (p .0, p .1 .here)
 
 returns-3 : tie.Need-returns-3
 returns-3 c =
-    let s = c .before .before .before .before .before .before .before .before .before .before .before .before .before .before .before in
+    let s = start (c .before .before .before) in
     read-refuses (rungs s) (source s) (found s) (s .args .out .now) 7 0
     (range-shape (gate s) (ranges s) (fits s) (passed (c .before .before .before)) (lt-ltb (s .args .n) 32 (c .before .before .if1 .left))
     (sym (c .before .is-word .ensures) ∙ not-true (c .before .is-word .result) (c .if2 .taken)))
@@ -152,7 +155,7 @@ sub-if3 c = inside (c .before .before .before .before) .begins
 
 returns-4 : tie.Need-returns-4
 returns-4 c =
-    let s = c .before .before .before .before .before .before .before .before .before .before .before .before .before .before .before .before .before in
+    let s = start (c .before .before .before .before .before) in
     let i = inside (c .before .before .before .before .before) in
     let l = rest-length (source s) (i .ends) in
     let e = width-is (c .before) in
@@ -164,7 +167,7 @@ add-if4 c = let m = narrow (c .before) in record { fits = omega arith }
 
 returns-5 : tie.Need-returns-5
 returns-5 c =
-    let s = c .before .before .before .before .before .before .before .before .before .before .before .before .before .before .before .before .before .before in
+    let s = start (c .before .before .before .before .before .before) in
     let n = count-is (c .before) in
     let r = c .if4 .taken in
     read-short (rungs s) (source s) (found s) (s .args .out .now) (take (bits (type s)) (restOf (source s))) (bits (type s)) (whole (c .before))
@@ -182,7 +185,7 @@ part-write-run-end c = search needs
 
 write-run-requires : tie.Need-write-run-requires
 write-run-requires c κs =
-    let s = c .before .before .before .before .before .before .before .before .before .before .before .before .before .before .before .before .before .before .before .before in
+    let s = start (c .before .before .before .before .before .before .before .before) in
     let i = inside (c .before .before .before .before .before .before .before .before) in
     let a = i .ends in
     let b = i .begins in
@@ -192,16 +195,16 @@ write-run-requires c κs =
     let l = lent-length (s .args .bytes .now) (s .args .position) in
     (record { inside = omega arith; counted = omega arith }, record { inside = omega arith; counted = omega arith })
 
-add-t27 : tie.Need-add-t27
-add-t27 c =
-    let i = inside (c .before .before .before .before .before .before .before .before .before .before .before) .begins in let r = c .before .before .before .before .before .before .if3 .left in let f = c .before .before .before .before .before .before .before .before .before .before .before .before .before .before .before .before .before .before .before .before .before .before .before .fits .length in record { fits = omega arith }
+add-t24 : tie.Need-add-t24
+add-t24 c =
+    let i = inside (c .before .before .before .before .before .before .before .before .before .before .before) .begins in let r = c .before .before .before .before .before .before .if3 .left in let f = start (c .before .before .before .before .before .before .before .before .before .before .before) .fits .length in record { fits = omega arith }
 
 same-length : tie.Need-same-length
 same-length c = search needs
 
 returns-6 : tie.Need-returns-6
 returns-6 c =
-    let s = c .before .before .before .before .before .before .before .before .before .before .before .before .before .before .before .before .before .before .before .before .before .before .before in
+    let s = start (c .before .before .before .before .before .before .before .before .before .before .before) in
     let n = count-is (c .before .before .before .before .before .before) in
     let e = width-is (c .before .before .before .before .before .before .before) in
     let r = c .before .before .before .before .before .if4 .left in
@@ -236,6 +239,6 @@ word-from-bits-spec =
     part-write-run-start
     part-write-run-end
     write-run-requires
-    add-t27
+    add-t24
     same-length
     returns-6)

@@ -29,11 +29,10 @@ use Rattle.bits.proofs.Lent.{lent-length, lent-record, record-length}
 use Rattle.words.proofs.joins.word_product.Statement.{statement}
 use Rattle.words.proofs.joins.word_product.Tie as tie
 
--- The table that the columns make, the two records and the types; the tests of 7, the call's rungs and the record's bits; the rungs of the gate.
+-- The table that the columns and the groups make, the two records and the types; the tests of 7, the call's rungs and the record's bits; the rungs of the gate.
 abbrev of : tie.Start → Table
 of s =
-    table (s .args .kinds .now) (s .args .lefts .now) (s .args .rights .now) (s .args .widths .now) (s .args .sizes .now)
-    (s .args .padded .now) (s .args .classes .now) (s .args .count)
+    table (s .args .kinds .now) (s .args .lefts .now) (s .args .rights .now) (s .args .groups .now) (s .args .count)
 
 abbrev first : tie.Start → Record
 first s = record-of (s .args .a-bytes .now) (s .args .a-offset) (s .args .a-node)
@@ -62,34 +61,38 @@ rungs s = joinRungs (of s) (first s) (second s) (s .args .result)
 abbrev bits-of : tie.Start → List Bool
 bits-of s = productBits (of s) (first s) (second s)
 
-passed : (c : tie.After-enum-told) → ladder (gate (c .before .before .before .before .before .before .before .before .before .before .before .before .before)) (tt {0}) ≡ accepted (tt {0})
+-- What the call is given, at any place past the gate.
+abbrev start : tie.After-enum-told → tie.Start
+start c = c .before .before .before .before .before .before .before .before .before .before
+
+passed : (c : tie.After-enum-told) → ladder (gate (start c)) (tt {0}) ≡ accepted (tt {0})
 passed c = sym (c .before .before .two-to .ensures) ∙ ap doneOf (c .enum-told .given .1)
 
 -- Each test, as the code answers it.
-is-small : (c : tie.Else1) → small (c .before .before .before .before .before .before .before .before .before .before .before .before .before .before .before) ≡ true
-is-small c = let e = c .before .word-of .ensures in let l = c .if1 .left in lt-ltb (asWord (typeOf (of (c .before .before .before .before .before .before .before .before .before .before .before .before .before .before .before)) (first (c .before .before .before .before .before .before .before .before .before .before .before .before .before .before .before)))) 31 (omega arith)
+is-small : (c : tie.Else1) → small (start (c .before .before)) ≡ true
+is-small c = let e = c .before .word-of .ensures in let l = c .if1 .left in lt-ltb (asWord (typeOf (of (start (c .before .before))) (first (start (c .before .before))))) 31 (omega arith)
 
-is-alike : (c : tie.After-is-word) → c .is-word .result ≡ alike (c .before .before .before .before .before .before .before .before .before .before .before .before .before .before .before .before)
+is-alike : (c : tie.After-is-word) → c .is-word .result ≡ alike (start (c .before .before .before))
 is-alike c =
-    c .is-word .ensures ∙ ap (λ (k : ℕ). isWord k (typeOf (of (c .before .before .before .before .before .before .before .before .before .before .before .before .before .before .before .before)) (second (c .before .before .before .before .before .before .before .before .before .before .before .before .before .before .before .before)))) (c .before .before .word-of .ensures)
+    c .is-word .ensures ∙ ap (λ (k : ℕ). isWord k (typeOf (of (start (c .before .before .before))) (second (start (c .before .before .before))))) (c .before .before .word-of .ensures)
 
-is-next : (c : tie.After-is-word2) → c .is-word2 .result ≡ next (c .before .before .before .before .before .before .before .before .before .before .before .before .before .before .before .before .before .before)
+is-next : (c : tie.After-is-word2) → c .is-word2 .result ≡ next (start (c .before .before .before .before .before))
 is-next c =
     c .is-word2 .ensures
-    ∙ ap (λ (k : ℕ). isWord k (typeAt (of (c .before .before .before .before .before .before .before .before .before .before .before .before .before .before .before .before .before .before)) (c .before .before .before .before .before .before .before .before .before .before .before .before .before .before .before .before .before .before .args .result))) (add-one (c .before .before .before .before .word-of .result) ∙ ap suc (c .before .before .before .before .word-of .ensures))
+    ∙ ap (λ (k : ℕ). isWord k (typeAt (of (start (c .before .before .before .before .before))) (start (c .before .before .before .before .before) .args .result))) (add-one (c .before .before .before .before .word-of .result) ∙ ap suc (c .before .before .before .before .word-of .ensures))
 
-all-right : (c : tie.Else3) → ladder (rungs (c .before .before .before .before .before .before .before .before .before .before .before .before .before .before .before .before .before .before .before)) (tt {0}) ≡ accepted (tt {0})
+all-right : (c : tie.Else3) → ladder (rungs (start (c .before .before .before .before .before .before))) (tt {0}) ≡ accepted (tt {0})
 all-right c =
-    let s = c .before .before .before .before .before .before .before .before .before .before .before .before .before .before .before .before .before .before .before in
+    let s = start (c .before .before .before .before .before .before) in
     shape-right (gate s) (fits s) (passed (c .before .before .before .before .before .before))
     (and-both (small s && alike s) (next s)
     (and-both (small s) (alike s) (is-small (c .before .before .before .before)) (sym (is-alike (c .before .before .before)) ∙ not-false (c .before .before .before .is-word .result) (c .before .before .if2 .left)))
     (sym (is-next (c .before)) ∙ not-false (c .before .is-word2 .result) (c .if3 .left)))
 
 -- Half of the result is as wide as either record, and the result is not too wide.
-half-is : (c : tie.After-word-width) → c .word-width .result ≡ bits (typeOf (of (c .before .before .before .before .before .before .before .before .before .before .before .before .before .before .before .before .before .before .before .before)) (first (c .before .before .before .before .before .before .before .before .before .before .before .before .before .before .before .before .before .before .before .before)))
+half-is : (c : tie.After-word-width) → c .word-width .result ≡ bits (typeOf (of (start (c .before .before .before .before .before .before .before))) (first (start (c .before .before .before .before .before .before .before))))
 half-is c =
-    let s = c .before .before .before .before .before .before .before .before .before .before .before .before .before .before .before .before .before .before .before .before in
+    let s = start (c .before .before .before .before .before .before .before) in
     let t = typeOf (of s) (first s) in
     let e = c .before .before .before .before .before .before .word-of .ensures in
     let l : asWord t < 32 = let k = c .before .before .before .before .before .if1 .left in omega arith in
@@ -98,9 +101,9 @@ half-is c =
     ∙ ap (λ (k : ℕ). 2 ^ k) e
     ∙ sym (ap bits (asWord-word t l) ∙ bits-word (asWord t))
 
-other-half : (c : tie.After-word-width) → c .word-width .result ≡ bits (typeOf (of (c .before .before .before .before .before .before .before .before .before .before .before .before .before .before .before .before .before .before .before .before)) (second (c .before .before .before .before .before .before .before .before .before .before .before .before .before .before .before .before .before .before .before .before)))
+other-half : (c : tie.After-word-width) → c .word-width .result ≡ bits (typeOf (of (start (c .before .before .before .before .before .before .before))) (second (start (c .before .before .before .before .before .before .before))))
 other-half c =
-    let s = c .before .before .before .before .before .before .before .before .before .before .before .before .before .before .before .before .before .before .before .before in
+    let s = start (c .before .before .before .before .before .before .before) in
     let n = c .before .before .before .before .before .before .word-of .result in
     c .word-width .ensures
     ∙ word-widths n (omega arith)
@@ -108,7 +111,7 @@ other-half c =
 
 narrow : (c : tie.After-word-width) → c .word-width .result + c .word-width .result ≤ 524288
 narrow c =
-    let s = c .before .before .before .before .before .before .before .before .before .before .before .before .before .before .before .before .before .before .before .before in
+    let s = start (c .before .before .before .before .before .before .before) in
     let n = c .before .before .before .before .before .before .word-of .result in
     let p = handed-passed (of s) (first s ∷ second s ∷ []) (s .args .result ∷ []) (passed (c .before .before .before .before .before .before .before)) .1 .1 .1 .0 .narrow in
     let whole : bits (typeAt (of s) (s .args .result)) ≡ 2 ^ suc n =
@@ -121,23 +124,23 @@ narrow c =
     omega arith
 
 -- Both records lie within their bytes.
-first-in : (c : tie.After-word-width) → c .before .before .before .before .before .before .before .before .before .before .before .before .before .before .before .before .before .before .before .before .args .a-offset + c .word-width .result ≤ 8 * length (c .before .before .before .before .before .before .before .before .before .before .before .before .before .before .before .before .before .before .before .before .args .a-bytes .now)
+first-in : (c : tie.After-word-width) → start (c .before .before .before .before .before .before .before) .args .a-offset + c .word-width .result ≤ 8 * length (start (c .before .before .before .before .before .before .before) .args .a-bytes .now)
 first-in c =
-    let s = c .before .before .before .before .before .before .before .before .before .before .before .before .before .before .before .before .before .before .before .before in
+    let s = start (c .before .before .before .before .before .before .before) in
     let p = handed-passed (of s) (first s ∷ second s ∷ []) (s .args .result ∷ []) (passed (c .before .before .before .before .before .before .before)) .2 .0 .ends in
     let e = half-is c in
     omega arith
 
-second-in : (c : tie.After-word-width) → c .before .before .before .before .before .before .before .before .before .before .before .before .before .before .before .before .before .before .before .before .args .b-offset + c .word-width .result ≤ 8 * length (c .before .before .before .before .before .before .before .before .before .before .before .before .before .before .before .before .before .before .before .before .args .b-bytes .now)
+second-in : (c : tie.After-word-width) → start (c .before .before .before .before .before .before .before) .args .b-offset + c .word-width .result ≤ 8 * length (start (c .before .before .before .before .before .before .before) .args .b-bytes .now)
 second-in c =
-    let s = c .before .before .before .before .before .before .before .before .before .before .before .before .before .before .before .before .before .before .before .before in
+    let s = start (c .before .before .before .before .before .before .before) in
     let p = handed-passed (of s) (first s ∷ second s ∷ []) (s .args .result ∷ []) (passed (c .before .before .before .before .before .before .before)) .2 .1 .0 .ends in
     let e = other-half c in
     omega arith
 
-count-is : (c : tie.After-word-width) → length (bits-of (c .before .before .before .before .before .before .before .before .before .before .before .before .before .before .before .before .before .before .before .before)) ≡ c .word-width .result + c .word-width .result
+count-is : (c : tie.After-word-width) → length (bits-of (start (c .before .before .before .before .before .before .before))) ≡ c .word-width .result + c .word-width .result
 count-is c =
-    let s = c .before .before .before .before .before .before .before .before .before .before .before .before .before .before .before .before .before .before .before .before in
+    let s = start (c .before .before .before .before .before .before .before) in
     let p = handed-passed (of s) (first s ∷ second s ∷ []) (s .args .result ∷ []) (passed (c .before .before .before .before .before .before .before)) .2 in
     let a = record-length (of s) (first s) (p .0 .ends) in
     let b = record-length (of s) (second s) (p .1 .0 .ends) in
@@ -154,7 +157,7 @@ enum-known-judged c = search needs
 
 returns : tie.Need-returns
 returns c =
-    let s = c .before .before .before .before .before .before .before .before .before .before .before .before .before .before in
+    let s = c .before .before .before .before .before .before .before .before .before .before .before in
     let r = c .before .judged .given .0 .0 in
     refuses (rungs s) (bits-of s) (s .args .out .now) (r .number) (r .place)
     (ladder-stop (gate s) _ (tt {0}) (tt {0}) (r .number) (r .place) (sym (c .before .before .before .two-to .ensures) ∙ ap doneOf (c .before .judged .given .1)))
@@ -164,13 +167,13 @@ enum-told c = search needs
 
 word-of-requires : tie.Need-word-of-requires
 word-of-requires c κs =
-    let s = c .before .before .before .before .before .before .before .before .before .before .before .before .before in
+    let s = start c in
     let p = handed-passed (of s) (first s ∷ second s ∷ []) (s .args .result ∷ []) (passed c) in
     (p .0, p .1 .0 .here)
 
 returns-2 : tie.Need-returns-2
 returns-2 c =
-    let s = c .before .before .before .before .before .before .before .before .before .before .before .before .before .before .before in
+    let s = start (c .before .before) in
     let e = c .before .word-of .ensures in
     let l = c .if1 .taken in
     refuses (rungs s) (bits-of s) (s .args .out .now) 7 0
@@ -179,13 +182,13 @@ returns-2 c =
 
 is-word-requires : tie.Need-is-word-requires
 is-word-requires c κs =
-    let s = c .before .before .before .before .before .before .before .before .before .before .before .before .before .before .before in
+    let s = start (c .before .before) in
     let p = handed-passed (of s) (first s ∷ second s ∷ []) (s .args .result ∷ []) (passed (c .before .before)) in
     (p .0, p .1 .1 .0 .here)
 
 returns-3 : tie.Need-returns-3
 returns-3 c =
-    let s = c .before .before .before .before .before .before .before .before .before .before .before .before .before .before .before .before .before in
+    let s = start (c .before .before .before .before) in
     refuses (rungs s) (bits-of s) (s .args .out .now) 7 0
     (shape-wrong (gate s) (fits s) (passed (c .before .before .before .before))
     (ap (λ (b : Bool). b && next s)
@@ -196,13 +199,13 @@ add-is-word c = search needs
 
 is-word-requires-2 : tie.Need-is-word-requires-2
 is-word-requires-2 c κs =
-    let s = c .before .before .before .before .before .before .before .before .before .before .before .before .before .before .before .before .before in
+    let s = start (c .before .before .before .before) in
     let p = handed-passed (of s) (first s ∷ second s ∷ []) (s .args .result ∷ []) (passed (c .before .before .before .before)) in
     (p .0, p .1 .1 .1 .0 .here)
 
 returns-4 : tie.Need-returns-4
 returns-4 c =
-    let s = c .before .before .before .before .before .before .before .before .before .before .before .before .before .before .before .before .before .before .before in
+    let s = start (c .before .before .before .before .before .before) in
     refuses (rungs s) (bits-of s) (s .args .out .now) 7 0
     (shape-wrong (gate s) (fits s) (passed (c .before .before .before .before .before .before))
     (and-none (small s && alike s) (next s) (sym (is-next (c .before)) ∙ not-true (c .before .is-word2 .result) (c .if3 .taken))))
@@ -218,7 +221,7 @@ add-if4-2 c = let m = narrow c in record { fits = omega arith }
 
 returns-5 : tie.Need-returns-5
 returns-5 c =
-    let s = c .before .before .before .before .before .before .before .before .before .before .before .before .before .before .before .before .before .before .before .before .before in
+    let s = start (c .before .before .before .before .before .before .before .before) in
     let n = count-is (c .before) in
     let r = c .if4 .taken in
     short (rungs s) (bits-of s) (s .args .out .now) (all-right (c .before .before)) (omega arith)
@@ -243,7 +246,7 @@ part-write-pair-end-2 c = search needs
 
 write-pair-requires : tie.Need-write-pair-requires
 write-pair-requires c κs =
-    let s = c .before .before .before .before .before .before .before .before .before .before .before .before .before .before .before .before .before .before .before .before .before .before .before .before in
+    let s = start (c .before .before .before .before .before .before .before .before .before .before .before) in
     let m = narrow (c .before .before .before .before) in
     let i = first-in (c .before .before .before .before) in
     let j = second-in (c .before .before .before .before) in
@@ -257,15 +260,15 @@ write-pair-requires c κs =
       ),
     )
 
-add-t27 : tie.Need-add-t27
-add-t27 c = let m = narrow (c .before .before .before .before .before .before .before) in record { fits = omega arith }
+add-t24 : tie.Need-add-t24
+add-t24 c = let m = narrow (c .before .before .before .before .before .before .before) in record { fits = omega arith }
 
 same-length : tie.Need-same-length
 same-length c = search needs
 
 returns-6 : tie.Need-returns-6
 returns-6 c =
-    let s = c .before .before .before .before .before .before .before .before .before .before .before .before .before .before .before .before .before .before .before .before .before .before .before .before .before .before .before in
+    let s = start (c .before .before .before .before .before .before .before .before .before .before .before .before .before .before) in
     let n = count-is (c .before .before .before .before .before .before .before) in
     let r = c .before .before .before .before .before .before .if4 .left in
     let w = c .before .before .before .before .before .before .before .word-width .result in
@@ -300,6 +303,6 @@ word-product-spec =
     part-write-pair-start-2
     part-write-pair-end-2
     write-pair-requires
-    add-t27
+    add-t24
     same-length
     returns-6)

@@ -22,11 +22,10 @@ use Rattle.words.proofs.Rungs.{refuses, short, fulfils, range-stop, ran
 use Rattle.words.proofs.numbers.number_word.Statement.{statement}
 use Rattle.words.proofs.numbers.number_word.Tie as tie
 
--- The table that the columns make; the tests of 6 and 7, the call's rungs and the record's bits; the rungs of the gate.
+-- The table that the columns and the groups make; the tests of 6 and 7, the call's rungs and the record's bits; the rungs of the gate.
 abbrev of : tie.Start → Table
 of s =
-    table (s .args .kinds .now) (s .args .lefts .now) (s .args .rights .now) (s .args .widths .now) (s .args .sizes .now)
-    (s .args .padded .now) (s .args .classes .now) (s .args .count)
+    table (s .args .kinds .now) (s .args .lefts .now) (s .args .rights .now) (s .args .groups .now) (s .args .count)
 
 abbrev ranges : tie.Start → Bool
 ranges s = ltb (s .args .number) (2 ^ (2 ^ (s .args .n)))
@@ -43,20 +42,24 @@ bits-of s = toBits (2 ^ (s .args .n)) (s .args .number)
 abbrev gate : tie.Start → List Rung
 gate s = named (of s) (s .args .result ∷ [])
 
-passed : (c : tie.After-enum-told) → ladder (gate (c .before .before .before .before .before .before .before .before .before .before .before)) (tt {0}) ≡ accepted (tt {0})
+-- What the call is given, at any place past the gate.
+abbrev start : tie.After-enum-told → tie.Start
+start c = c .before .before .before .before .before .before .before .before
+
+passed : (c : tie.After-enum-told) → ladder (gate (start c)) (tt {0}) ≡ accepted (tt {0})
 passed c = sym (c .before .before .node .ensures) ∙ ap doneOf (c .enum-told .given .1)
 
 -- The width is 2 to the n, at most 4.
-width-is : (c : tie.After-word-width) → c .word-width .result ≡ 2 ^ (c .before .before .before .before .before .before .before .before .before .before .before .before .args .n)
-width-is c = let small : c .before .before .before .before .before .before .before .before .before .before .before .before .args .n < 3 = c .before .before .before .before .before .before .before .before .before .before .before .before .pre in c .word-width .ensures ∙ word-widths (c .before .before .before .before .before .before .before .before .before .before .before .before .args .n) (omega arith)
+width-is : (c : tie.After-word-width) → c .word-width .result ≡ 2 ^ (start (c .before) .args .n)
+width-is c = let small : start (c .before) .args .n < 3 = start (c .before) .pre in c .word-width .ensures ∙ word-widths (start (c .before) .args .n) (omega arith)
 
 width-most : (n : ℕ) → n < 3 → 2 ^ n ≤ 2 ^ 2
 width-most n h = pow-mono {i = n} {j = 2} (omega arith)
 
-in-range : (c : tie.Else1) → ranges (c .before .before .before .before .before .before .before .before .before .before .before .before .before) ≡ true
+in-range : (c : tie.Else1) → ranges (start (c .before .before)) ≡ true
 in-range c =
-    ap (λ (w : ℕ). ltb (c .before .before .before .before .before .before .before .before .before .before .before .before .before .args .number) (2 ^ w)) (sym (width-is (c .before)))
-    ∙ shifted-in (c .before .before .before .before .before .before .before .before .before .before .before .before .before .args .number) (c .before .word-width .result) (c .if1 .left)
+    ap (λ (w : ℕ). ltb (start (c .before .before) .args .number) (2 ^ w)) (sym (width-is (c .before)))
+    ∙ shifted-in (start (c .before .before) .args .number) (c .before .word-width .result) (c .if1 .left)
 
 node-requires : tie.Need-node-requires
 node-requires c κs = search needs
@@ -66,7 +69,7 @@ enum-known-judged c = search needs
 
 returns : tie.Need-returns
 returns c =
-    let s = c .before .before .before .before .before .before .before .before .before .before .before .before in
+    let s = c .before .before .before .before .before .before .before .before .before in
     let r = c .before .judged .given .0 .0 in
     refuses (rungs s) (bits-of s) (s .args .out .now) (r .number) (r .place)
     (range-stop (gate s) (ranges s) (fits s) (r .number) (r .place)
@@ -79,11 +82,11 @@ word-width-requires : tie.Need-word-width-requires
 word-width-requires c κs = search needs
 
 shr-if1 : tie.Need-shr-if1
-shr-if1 c = let e = width-is c in let m = width-most (c .before .before .before .before .before .before .before .before .before .before .before .before .args .n) (c .before .before .before .before .before .before .before .before .before .before .before .before .pre) in omega arith
+shr-if1 c = let e = width-is c in let m = width-most (start (c .before) .args .n) (start (c .before) .pre) in omega arith
 
 returns-2 : tie.Need-returns-2
 returns-2 c =
-    let s = c .before .before .before .before .before .before .before .before .before .before .before .before .before in
+    let s = start (c .before .before) in
     refuses (rungs s) (bits-of s) (s .args .out .now) 6 0
     (range-missed (gate s) (ranges s) (fits s) (passed (c .before .before))
     (ap (λ (w : ℕ). ltb (s .args .number) (2 ^ w)) (sym (width-is (c .before)))
@@ -91,27 +94,27 @@ returns-2 c =
 
 is-word-requires : tie.Need-is-word-requires
 is-word-requires c κs =
-    let p = named-passed (of (c .before .before .before .before .before .before .before .before .before .before .before .before .before)) (c .before .before .before .before .before .before .before .before .before .before .before .before .before .args .result ∷ []) (passed (c .before .before)) in (p .0, p .1 .0 .here)
+    let p = named-passed (of (start (c .before .before))) (start (c .before .before) .args .result ∷ []) (passed (c .before .before)) in (p .0, p .1 .0 .here)
 
 returns-3 : tie.Need-returns-3
 returns-3 c =
-    let s = c .before .before .before .before .before .before .before .before .before .before .before .before .before .before .before in
+    let s = start (c .before .before .before .before) in
     refuses (rungs s) (bits-of s) (s .args .out .now) 7 0
     (range-shape (gate s) (ranges s) (fits s) (passed (c .before .before .before .before)) (in-range (c .before .before))
     (sym (c .before .is-word .ensures) ∙ not-true (c .before .is-word .result) (c .if2 .taken)))
 
-all-right : (c : tie.Else2) → ladder (rungs (c .before .before .before .before .before .before .before .before .before .before .before .before .before .before .before)) (tt {0}) ≡ accepted (tt {0})
+all-right : (c : tie.Else2) → ladder (rungs (start (c .before .before .before .before))) (tt {0}) ≡ accepted (tt {0})
 all-right c =
-    let s = c .before .before .before .before .before .before .before .before .before .before .before .before .before .before .before in
+    let s = start (c .before .before .before .before) in
     range-pass (gate s) (ranges s) (fits s) (passed (c .before .before .before .before)) (in-range (c .before .before))
     (sym (c .before .is-word .ensures) ∙ not-false (c .before .is-word .result) (c .if2 .left))
 
 add-if3 : tie.Need-add-if3
-add-if3 c = let e = width-is (c .before .before .before) in let m = width-most (c .before .before .before .before .before .before .before .before .before .before .before .before .before .before .before .args .n) (c .before .before .before .before .before .before .before .before .before .before .before .before .before .before .before .pre) in record { fits = omega arith }
+add-if3 c = let e = width-is (c .before .before .before) in let m = width-most (start (c .before .before .before .before) .args .n) (start (c .before .before .before .before) .pre) in record { fits = omega arith }
 
 returns-4 : tie.Need-returns-4
 returns-4 c =
-    let s = c .before .before .before .before .before .before .before .before .before .before .before .before .before .before .before .before in
+    let s = start (c .before .before .before .before .before) in
     let e = width-is (c .before .before .before .before) in
     let l = length-toBits (2 ^ (s .args .n)) (s .args .number) in
     short (rungs s) (bits-of s) (s .args .out .now) (all-right (c .before)) (omega arith)
@@ -119,7 +122,7 @@ returns-4 c =
 write-number-requires : tie.Need-write-number-requires
 write-number-requires c κs =
     let e = width-is (c .before .before .before .before .before) in
-    let m = width-most (c .before .before .before .before .before .before .before .before .before .before .before .before .before .before .before .before .before .args .n) (c .before .before .before .before .before .before .before .before .before .before .before .before .before .before .before .before .before .pre) in
+    let m = width-most (start (c .before .before .before .before .before .before) .args .n) (start (c .before .before .before .before .before .before) .pre) in
     let r = c .before .if3 .left in
     (omega arith, record { inside = omega arith; counted = omega arith })
 
@@ -128,7 +131,7 @@ same-length c = search needs
 
 returns-5 : tie.Need-returns-5
 returns-5 c =
-    let s = c .before .before .before .before .before .before .before .before .before .before .before .before .before .before .before .before .before .before .before .before in
+    let s = start (c .before .before .before .before .before .before .before .before .before) in
     let e = width-is (c .before .before .before .before .before .before .before .before) in
     let l = length-toBits (2 ^ (s .args .n)) (s .args .number) in
     let r = c .before .before .before .before .if3 .left in

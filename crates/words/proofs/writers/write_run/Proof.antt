@@ -7,7 +7,7 @@ use borrow.Author.Needs.{needs}
 use Rattle.meaning.specs.Bits.{bitsOf}
 use Rattle.bits.proofs.OfBytes.{are-bytes, length-bitsOf}
 use Rattle.bits.proofs.Packed.{finished}
-use Rattle.bits.proofs.Pasted.{paste-take}
+use Rattle.meaning.proofs.Pasted.{paste-take}
 use Rattle.bits.proofs.Runs.{length-run}
 use Rattle.words.proofs.writers.write_run.Statement.{statement}
 use Rattle.words.proofs.writers.write_run.Tie as tie
