@@ -315,7 +315,7 @@ uint64_t qv_word_product(
  * written at bit 0 of `out`. Refuses: 1 to 5, 6 (n above 31), 7 (node is not word n), 8, 9. */
 uint64_t qv_word_from_bits(
     QV_TABLE,
-    const uint8_t *bytes, size_t bytes_len, uint64_t length, uint64_t *position, uint64_t n, uint64_t node,
+    const uint8_t *bytes, size_t bytes_len, uint64_t until, uint64_t *position, uint64_t n, uint64_t node,
     uint8_t *out, size_t out_len);
 
 /* The record of buffer type n with these bytes. Refuses: 1 to 4, 6 (n above 12, or more than 2^(n+1) - 1 bytes), 7, 9. */
@@ -339,13 +339,13 @@ uint64_t qv_ctx8(
 /* Reads compact bits; padding is zero. Refuses: 1 to 5, 8, 9. */
 uint64_t qv_from_compact_bits(
     QV_TABLE,
-    const uint8_t *bytes, size_t bytes_len, uint64_t length, uint64_t *position, uint64_t node, uint8_t *out,
+    const uint8_t *bytes, size_t bytes_len, uint64_t until, uint64_t *position, uint64_t node, uint8_t *out,
     size_t out_len);
 
 /* Reads padded bits; padding is kept as read. Refuses: 1 to 5, 8, 9. */
 uint64_t qv_from_padded_bits(
     QV_TABLE,
-    const uint8_t *bytes, size_t bytes_len, uint64_t length, uint64_t *position, uint64_t node, uint8_t *out,
+    const uint8_t *bytes, size_t bytes_len, uint64_t until, uint64_t *position, uint64_t node, uint8_t *out,
     size_t out_len);
 
 /* Writes the compact bits. Refuses: 1 to 5, 9. */

@@ -16,14 +16,14 @@ use Rattle.answers.specs.declared.Done.{Done}
 use Rattle.answers.specs.declared.Count.{Count}
 use Rattle.answers.specs.declared.Flag.{Flag}
 use Rattle.answers.specs.declared.Sides.{Sides}
-use Rattle.answers.specs.declared.Sided.{Sided}
+use Rattle.answers.specs.declared.SidesAnswer.{SidesAnswer}
 use Rattle.answers.specs.declared.Facts.{Facts}
-use Rattle.answers.specs.declared.Told.{Told}
+use Rattle.answers.specs.declared.FactsAnswer.{FactsAnswer}
 use Rattle.answers.specs.declared.Spot.{Spot}
-use Rattle.answers.specs.declared.Seen.{Seen}
-use Rattle.answers.specs.declared.Parted.{Parted}
+use Rattle.answers.specs.declared.SpotAnswer.{SpotAnswer}
+use Rattle.answers.specs.declared.SpotsAnswer.{SpotsAnswer}
 use Rattle.answers.specs.declared.Order.{Order}
-use Rattle.answers.specs.declared.Compared.{Compared}
+use Rattle.answers.specs.declared.OrderAnswer.{OrderAnswer}
 use Rattle.answers.specs.Verdicts.{refusalOf, doneOf, countOf, flagOf, sidesOf, factsOf, spot, spotOf, spotsOf, order, orderOf}
 
 -- What was accepted, or a value where nothing was.
@@ -78,33 +78,33 @@ told f =
 spotted : records.Spot → Spot
 spotted s = record { offset = s .offset; node = s .node }
 
-pub sides-settled : (a b : Sided) → sidesOf a ≡ sidesOf b → a ≡ b
+pub sides-settled : (a b : SidesAnswer) → sidesOf a ≡ sidesOf b → a ≡ b
 unfolding sided
-sides-settled (Sided.Are n) (Sided.Are m) e = ap (λ x. Sided.Are (sided x)) (same-accepted _ _ e)
-sides-settled (Sided.Are n) (Sided.Refused s) e = other _ s e
-sides-settled (Sided.Refused r) (Sided.Are m) e = other _ r (sym e)
-sides-settled (Sided.Refused r) (Sided.Refused s) e = ap Sided.Refused (same-refusal r s e)
+sides-settled (SidesAnswer.Are n) (SidesAnswer.Are m) e = ap (λ x. SidesAnswer.Are (sided x)) (same-accepted _ _ e)
+sides-settled (SidesAnswer.Are n) (SidesAnswer.Refused s) e = other _ s e
+sides-settled (SidesAnswer.Refused r) (SidesAnswer.Are m) e = other _ r (sym e)
+sides-settled (SidesAnswer.Refused r) (SidesAnswer.Refused s) e = ap SidesAnswer.Refused (same-refusal r s e)
 
-pub facts-settled : (a b : Told) → factsOf a ≡ factsOf b → a ≡ b
+pub facts-settled : (a b : FactsAnswer) → factsOf a ≡ factsOf b → a ≡ b
 unfolding told
-facts-settled (Told.Are n) (Told.Are m) e = ap (λ x. Told.Are (told x)) (same-accepted _ _ e)
-facts-settled (Told.Are n) (Told.Refused s) e = other _ s e
-facts-settled (Told.Refused r) (Told.Are m) e = other _ r (sym e)
-facts-settled (Told.Refused r) (Told.Refused s) e = ap Told.Refused (same-refusal r s e)
+facts-settled (FactsAnswer.Are n) (FactsAnswer.Are m) e = ap (λ x. FactsAnswer.Are (told x)) (same-accepted _ _ e)
+facts-settled (FactsAnswer.Are n) (FactsAnswer.Refused s) e = other _ s e
+facts-settled (FactsAnswer.Refused r) (FactsAnswer.Are m) e = other _ r (sym e)
+facts-settled (FactsAnswer.Refused r) (FactsAnswer.Refused s) e = ap FactsAnswer.Refused (same-refusal r s e)
 
-pub spot-settled : (a b : Seen) → spotOf a ≡ spotOf b → a ≡ b
+pub spot-settled : (a b : SpotAnswer) → spotOf a ≡ spotOf b → a ≡ b
 unfolding spotted
-spot-settled (Seen.At n) (Seen.At m) e = ap (λ x. Seen.At (spotted x)) (same-accepted _ _ e)
-spot-settled (Seen.At n) (Seen.Refused s) e = other _ s e
-spot-settled (Seen.Refused r) (Seen.At m) e = other _ r (sym e)
-spot-settled (Seen.Refused r) (Seen.Refused s) e = ap Seen.Refused (same-refusal r s e)
+spot-settled (SpotAnswer.At n) (SpotAnswer.At m) e = ap (λ x. SpotAnswer.At (spotted x)) (same-accepted _ _ e)
+spot-settled (SpotAnswer.At n) (SpotAnswer.Refused s) e = other _ s e
+spot-settled (SpotAnswer.Refused r) (SpotAnswer.At m) e = other _ r (sym e)
+spot-settled (SpotAnswer.Refused r) (SpotAnswer.Refused s) e = ap SpotAnswer.Refused (same-refusal r s e)
 
-pub spots-settled : (a b : Parted) → spotsOf a ≡ spotsOf b → a ≡ b
+pub spots-settled : (a b : SpotsAnswer) → spotsOf a ≡ spotsOf b → a ≡ b
 unfolding spotted
-spots-settled (Parted.At n o) (Parted.At m p) e = ap (λ x. Parted.At (spotted (x .first)) (spotted (x .second))) (same-accepted _ _ e)
-spots-settled (Parted.At n o) (Parted.Refused s) e = other _ s e
-spots-settled (Parted.Refused r) (Parted.At m p) e = other _ r (sym e)
-spots-settled (Parted.Refused r) (Parted.Refused s) e = ap Parted.Refused (same-refusal r s e)
+spots-settled (SpotsAnswer.At n o) (SpotsAnswer.At m p) e = ap (λ x. SpotsAnswer.At (spotted (x .first)) (spotted (x .second))) (same-accepted _ _ e)
+spots-settled (SpotsAnswer.At n o) (SpotsAnswer.Refused s) e = other _ s e
+spots-settled (SpotsAnswer.Refused r) (SpotsAnswer.At m p) e = other _ r (sym e)
+spots-settled (SpotsAnswer.Refused r) (SpotsAnswer.Refused s) e = ap SpotsAnswer.Refused (same-refusal r s e)
 
 ordered : Ordering → Order
 ordered Ordering·lt = Order.Less
@@ -117,9 +117,9 @@ ordered-order Order.Less = refl
 ordered-order Order.Equal = refl
 ordered-order Order.Greater = refl
 
-pub order-settled : (a b : Compared) → orderOf a ≡ orderOf b → a ≡ b
-order-settled (Compared.Is n) (Compared.Is m) e =
-    ap Compared.Is (sym (ordered-order n) ∙ ap ordered (same-accepted (order n) (order m) e) ∙ ordered-order m)
-order-settled (Compared.Is n) (Compared.Refused s) e = other (order n) s e
-order-settled (Compared.Refused r) (Compared.Is m) e = other (order m) r (sym e)
-order-settled (Compared.Refused r) (Compared.Refused s) e = ap Compared.Refused (same-refusal r s e)
+pub order-settled : (a b : OrderAnswer) → orderOf a ≡ orderOf b → a ≡ b
+order-settled (OrderAnswer.Is n) (OrderAnswer.Is m) e =
+    ap OrderAnswer.Is (sym (ordered-order n) ∙ ap ordered (same-accepted (order n) (order m) e) ∙ ordered-order m)
+order-settled (OrderAnswer.Is n) (OrderAnswer.Refused s) e = other (order n) s e
+order-settled (OrderAnswer.Refused r) (OrderAnswer.Is m) e = other (order m) r (sym e)
+order-settled (OrderAnswer.Refused r) (OrderAnswer.Refused s) e = ap OrderAnswer.Refused (same-refusal r s e)

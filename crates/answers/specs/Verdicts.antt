@@ -10,14 +10,14 @@ use Rattle.answers.specs.declared.Done.{Done}
 use Rattle.answers.specs.declared.Count.{Count}
 use Rattle.answers.specs.declared.Flag.{Flag}
 use Rattle.answers.specs.declared.Sides.{Sides}
-use Rattle.answers.specs.declared.Sided.{Sided}
+use Rattle.answers.specs.declared.SidesAnswer.{SidesAnswer}
 use Rattle.answers.specs.declared.Facts.{Facts}
-use Rattle.answers.specs.declared.Told.{Told}
+use Rattle.answers.specs.declared.FactsAnswer.{FactsAnswer}
 use Rattle.answers.specs.declared.Spot.{Spot}
-use Rattle.answers.specs.declared.Seen.{Seen}
-use Rattle.answers.specs.declared.Parted.{Parted}
+use Rattle.answers.specs.declared.SpotAnswer.{SpotAnswer}
+use Rattle.answers.specs.declared.SpotsAnswer.{SpotsAnswer}
 use Rattle.answers.specs.declared.Order.{Order}
-use Rattle.answers.specs.declared.Compared.{Compared}
+use Rattle.answers.specs.declared.OrderAnswer.{OrderAnswer}
 
 -- A refusal's number and place.
 abbrev pub refusalOf : {A : Type 0} → Refusal → Answer A
@@ -35,12 +35,12 @@ abbrev pub flagOf : Flag → Answer Bool
 flagOf (Flag.Is b) = accepted b
 flagOf (Flag.Refused r) = refusalOf r
 
-abbrev pub sidesOf : Sided → Answer types.Sides
-sidesOf (Sided.Are s) = accepted (record { leftNode = s .left; rightNode = s .right })
-sidesOf (Sided.Refused r) = refusalOf r
+abbrev pub sidesOf : SidesAnswer → Answer types.Sides
+sidesOf (SidesAnswer.Are s) = accepted (record { leftNode = s .left; rightNode = s .right })
+sidesOf (SidesAnswer.Refused r) = refusalOf r
 
-abbrev pub factsOf : Told → Answer tables.NodeFacts
-factsOf (Told.Are f) =
+abbrev pub factsOf : FactsAnswer → Answer tables.NodeFacts
+factsOf (FactsAnswer.Are f) =
     accepted
     (record {
       widthOf = f .width;
@@ -51,24 +51,24 @@ factsOf (Told.Are f) =
       leftNode = f .left;
       rightNode = f .right;
     })
-factsOf (Told.Refused r) = refusalOf r
+factsOf (FactsAnswer.Refused r) = refusalOf r
 
 abbrev pub spot : Spot → records.Spot
 spot s = record { offset = s .offset; node = s .node }
 
-abbrev pub spotOf : Seen → Answer records.Spot
-spotOf (Seen.At s) = accepted (spot s)
-spotOf (Seen.Refused r) = refusalOf r
+abbrev pub spotOf : SpotAnswer → Answer records.Spot
+spotOf (SpotAnswer.At s) = accepted (spot s)
+spotOf (SpotAnswer.Refused r) = refusalOf r
 
-abbrev pub spotsOf : Parted → Answer records.Spots
-spotsOf (Parted.At a b) = accepted (record { first = spot a; second = spot b })
-spotsOf (Parted.Refused r) = refusalOf r
+abbrev pub spotsOf : SpotsAnswer → Answer records.Spots
+spotsOf (SpotsAnswer.At a b) = accepted (record { first = spot a; second = spot b })
+spotsOf (SpotsAnswer.Refused r) = refusalOf r
 
 abbrev pub order : Order → Ordering
 order Order.Less = Ordering·lt
 order Order.Equal = Ordering·eq
 order Order.Greater = Ordering·gt
 
-abbrev pub orderOf : Compared → Answer Ordering
-orderOf (Compared.Is o) = accepted (order o)
-orderOf (Compared.Refused r) = refusalOf r
+abbrev pub orderOf : OrderAnswer → Answer Ordering
+orderOf (OrderAnswer.Is o) = accepted (order o)
+orderOf (OrderAnswer.Refused r) = refusalOf r

@@ -7,6 +7,54 @@ pub struct Refusal {
     pub place: usize,
 }
 
+// The refusals of document 01's ladder, at place 0. Only the first also names another place: the node at fault, or the offset in a file.
+pub const UNSOUND_NUMBER: u8 = 1;
+
+pub const UNSOUND: Refusal = Refusal {
+    number: UNSOUND_NUMBER,
+    place: 0,
+};
+
+pub const NO_SUCH_NODE: Refusal = Refusal {
+    number: 2,
+    place: 0,
+};
+
+pub const TOO_WIDE: Refusal = Refusal {
+    number: 3,
+    place: 0,
+};
+
+pub const TOO_LARGE: Refusal = Refusal {
+    number: 4,
+    place: 0,
+};
+
+pub const OUT_OF_BYTES: Refusal = Refusal {
+    number: 5,
+    place: 0,
+};
+
+pub const OUT_OF_RANGE: Refusal = Refusal {
+    number: 6,
+    place: 0,
+};
+
+pub const WRONG_SHAPE: Refusal = Refusal {
+    number: 7,
+    place: 0,
+};
+
+pub const ENDS_EARLY: Refusal = Refusal {
+    number: 8,
+    place: 0,
+};
+
+pub const NO_ROOM: Refusal = Refusal {
+    number: 9,
+    place: 0,
+};
+
 // Accepted, with nothing to say.
 pub enum Done {
     Accepted,
@@ -31,7 +79,7 @@ pub struct Sides {
     pub right: usize,
 }
 
-pub enum Sided {
+pub enum SidesAnswer {
     Are(Sides),
     Refused(Refusal),
 }
@@ -47,7 +95,7 @@ pub struct Facts {
     pub right: usize,
 }
 
-pub enum Told {
+pub enum FactsAnswer {
     Are(Facts),
     Refused(Refusal),
 }
@@ -58,12 +106,12 @@ pub struct Spot {
     pub node: usize,
 }
 
-pub enum Seen {
+pub enum SpotAnswer {
     At(Spot),
     Refused(Refusal),
 }
 
-pub enum Parted {
+pub enum SpotsAnswer {
     At(Spot, Spot),
     Refused(Refusal),
 }
@@ -75,7 +123,7 @@ pub enum Order {
     Greater,
 }
 
-pub enum Compared {
+pub enum OrderAnswer {
     Is(Order),
     Refused(Refusal),
 }

@@ -24,7 +24,7 @@ use Rattle.meaning.specs.Bits.{bitsOf, room, written}
 use Rattle.meaning.specs.Records.{compact}
 use Rattle.meaning.specs.Checked.{Sound}
 use Rattle.meaning.specs.Ladder.{Answer, accepted, ladder, kept, named, within, Record, record-of, typeAt, typeOf, recordBits, roomFor, makes, made}
-use Rattle.meaning.specs.RecordCalls.{compactLen}
+use Rattle.meaning.specs.RecordCalls.{compactLenCall}
 use Rattle.meaning.specs.CodecCalls.{writeRungs, compactBits, toCompactCall, toCompactOut, toPaddedCall, toPaddedOut}
 use Rattle.meaning.proofs.Types.{width-bits}
 use Rattle.meaning.proofs.Records.{unpadded-compact}
@@ -153,7 +153,7 @@ module _ (t : Table) (bytes bytes′ : List ℕ) (offset offset′ node : ℕ) (
       × (toPaddedOut t (record-of bytes offset node) out ≡ toPaddedOut t (record-of bytes′ offset′ node) out)
   padded-own out = own (recordBits t one) (recordBits t other) out e
 
-  pub length-own : compactLen t (record-of bytes offset node) ≡ compactLen t (record-of bytes′ offset′ node)
+  pub length-own : compactLenCall t (record-of bytes offset node) ≡ compactLenCall t (record-of bytes′ offset′ node)
   length-own =
       sym (length-told (writeRungs t one) (length (compactBits t one)) (held-passes t one w))
       ∙ ap (λ (v : List Bool). accepted (length v)) same-compact

@@ -9,7 +9,6 @@ mod walk;
 
 use answers::Count;
 use answers::Done;
-use answers::Refusal;
 use copy::copy_record;
 use decode::ends_early;
 use decode::read_record;
@@ -20,7 +19,7 @@ use walk::width_of;
 ghost use mathlib.Core.Path.{_≡_};
 ghost use Rattle.meaning.specs.Tables.{table};
 ghost use Rattle.meaning.specs.Ladder.{record-of, stream-of};
-ghost use Rattle.meaning.specs.RecordCalls.{compactLen};
+ghost use Rattle.meaning.specs.RecordCalls.{compactLenCall};
 ghost use Rattle.meaning.specs.CodecCalls.{fromCompactCall, fromCompactOut, fromPaddedCall, fromPaddedOut, toCompactCall, toCompactOut, toPaddedCall, toPaddedOut};
 ghost use Rattle.answers.specs.Verdicts.{countOf};
 
@@ -32,13 +31,13 @@ pub fn from_compact_bits(
     groups: &[u8],
     count: usize,
     bytes: &[u8],
-    length: usize,
+    until: usize,
     position: usize,
     node: usize,
     out: &mut [u8],
 ) -> Count
-    ensures { λ r. ⌜ countOf r ≡ fromCompactCall (table (now (kinds .entry)) (now (lefts .entry)) (now (rights .entry)) (now (groups .entry)) count) (stream-of (now (bytes .entry)) length position) node (now (out .entry)) ⌝ }
-    ensures { λ _. ⌜ now (out .exit) ≡ fromCompactOut (table (now (kinds .entry)) (now (lefts .entry)) (now (rights .entry)) (now (groups .entry)) count) (stream-of (now (bytes .entry)) length position) node (now (out .entry)) ⌝ }
+    ensures { λ r. ⌜ countOf r ≡ fromCompactCall (table (now (kinds .entry)) (now (lefts .entry)) (now (rights .entry)) (now (groups .entry)) count) (stream-of (now (bytes .entry)) until position) node (now (out .entry)) ⌝ }
+    ensures { λ _. ⌜ now (out .exit) ≡ fromCompactOut (table (now (kinds .entry)) (now (lefts .entry)) (now (rights .entry)) (now (groups .entry)) count) (stream-of (now (bytes .entry)) until position) node (now (out .entry)) ⌝ }
 {
     let passed = gate::stream(
         kinds,
@@ -47,7 +46,7 @@ pub fn from_compact_bits(
         groups,
         count,
         bytes,
-        length,
+        until,
         position,
         node,
     );
@@ -57,19 +56,13 @@ pub fn from_compact_bits(
     let from = position / 8;
     let src = &bytes[from..];
     let at = position % 8;
-    let until = at + (length - position);
-    if ends_early(kinds, lefts, rights, groups, count, src, until, at, node) {
-        return Count::Refused(Refusal {
-            number: 8,
-            place: 0,
-        });
+    let end = at + (until - position);
+    if ends_early(kinds, lefts, rights, groups, count, src, end, at, node) {
+        return Count::Refused(answers::ENDS_EARLY);
     }
     let width = width_of(kinds, lefts, rights, groups, count, node);
     if out.len() < (width + 7) / 8 {
-        return Count::Refused(Refusal {
-            number: 9,
-            place: 0,
-        });
+        return Count::Refused(answers::NO_ROOM);
     }
     let next = read_record(kinds, lefts, rights, groups, count, src, at, node, out);
     Count::Is(position + (next - at))
@@ -83,13 +76,13 @@ pub fn from_padded_bits(
     groups: &[u8],
     count: usize,
     bytes: &[u8],
-    length: usize,
+    until: usize,
     position: usize,
     node: usize,
     out: &mut [u8],
 ) -> Count
-    ensures { λ r. ⌜ countOf r ≡ fromPaddedCall (table (now (kinds .entry)) (now (lefts .entry)) (now (rights .entry)) (now (groups .entry)) count) (stream-of (now (bytes .entry)) length position) node (now (out .entry)) ⌝ }
-    ensures { λ _. ⌜ now (out .exit) ≡ fromPaddedOut (table (now (kinds .entry)) (now (lefts .entry)) (now (rights .entry)) (now (groups .entry)) count) (stream-of (now (bytes .entry)) length position) node (now (out .entry)) ⌝ }
+    ensures { λ r. ⌜ countOf r ≡ fromPaddedCall (table (now (kinds .entry)) (now (lefts .entry)) (now (rights .entry)) (now (groups .entry)) count) (stream-of (now (bytes .entry)) until position) node (now (out .entry)) ⌝ }
+    ensures { λ _. ⌜ now (out .exit) ≡ fromPaddedOut (table (now (kinds .entry)) (now (lefts .entry)) (now (rights .entry)) (now (groups .entry)) count) (stream-of (now (bytes .entry)) until position) node (now (out .entry)) ⌝ }
 {
     let passed = gate::stream(
         kinds,
@@ -98,7 +91,7 @@ pub fn from_padded_bits(
         groups,
         count,
         bytes,
-        length,
+        until,
         position,
         node,
     );
@@ -109,17 +102,11 @@ pub fn from_padded_bits(
     let src = &bytes[from..];
     let at = position % 8;
     let width = width_of(kinds, lefts, rights, groups, count, node);
-    if length - position < width {
-        return Count::Refused(Refusal {
-            number: 8,
-            place: 0,
-        });
+    if until - position < width {
+        return Count::Refused(answers::ENDS_EARLY);
     }
     if out.len() < (width + 7) / 8 {
-        return Count::Refused(Refusal {
-            number: 9,
-            place: 0,
-        });
+        return Count::Refused(answers::NO_ROOM);
     }
     copy_record(src, at, width, out);
     Count::Is(position + width)
@@ -149,10 +136,7 @@ pub fn to_compact_bits(
     let at = offset % 8;
     let space = out.len();
     if !compact_fits(kinds, lefts, rights, groups, count, src, at, node, space) {
-        return Count::Refused(Refusal {
-            number: 9,
-            place: 0,
-        });
+        return Count::Refused(answers::NO_ROOM);
     }
     let n = write_record(kinds, lefts, rights, groups, count, src, at, node, out);
     Count::Is(n)
@@ -182,10 +166,7 @@ pub fn to_padded_bits(
     let at = offset % 8;
     let width = width_of(kinds, lefts, rights, groups, count, node);
     if out.len() < (width + 7) / 8 {
-        return Count::Refused(Refusal {
-            number: 9,
-            place: 0,
-        });
+        return Count::Refused(answers::NO_ROOM);
     }
     copy_record(src, at, width, out);
     Count::Is(width)
@@ -202,7 +183,7 @@ pub fn compact_len(
     offset: usize,
     node: usize,
 ) -> Count
-    ensures { λ r. ⌜ countOf r ≡ compactLen (table (now (kinds .entry)) (now (lefts .entry)) (now (rights .entry)) (now (groups .entry)) count) (record-of (now (bytes .entry)) offset node) ⌝ }
+    ensures { λ r. ⌜ countOf r ≡ compactLenCall (table (now (kinds .entry)) (now (lefts .entry)) (now (rights .entry)) (now (groups .entry)) count) (record-of (now (bytes .entry)) offset node) ⌝ }
 {
     let passed = gate::record(kinds, lefts, rights, groups, count, bytes, offset, node);
     if let Done::Refused(r) = passed {

@@ -14,13 +14,13 @@ use Rattle.exports.specs.Codes.{Near}
 use Rattle.exports.specs.Handed.{ctx8Handed}
 use Rattle.exports.proofs.Places.{flat-near, sound-near}
 
-pub check-table-near : (t : Table) → Near (types.checkTable t)
+pub check-table-near : (t : Table) → Near (types.checkTableCall t)
 check-table-near t = sound-near t _ _ refl
 
-pub facts-of-near : (t : Table) (n : ℕ) → Near (types.factsOf t n)
+pub facts-of-near : (t : Table) (n : ℕ) → Near (types.factsOfCall t n)
 facts-of-near t n = sound-near t _ _ refl
 
-pub same-type-near : (t : Table) (a b : ℕ) → Near (types.sameType t a b)
+pub same-type-near : (t : Table) (a b : ℕ) → Near (types.sameTypeCall t a b)
 same-type-near t a b = sound-near t _ _ refl
 
 pub is-unit-near : (t : Table) (n : ℕ) → Near (types.isUnitCall t n)
@@ -29,10 +29,10 @@ is-unit-near t n = sound-near t _ _ refl
 pub is-empty-near : (t : Table) (n : ℕ) → Near (types.isEmptyCall t n)
 is-empty-near t n = sound-near t _ _ refl
 
-pub type-as-sum-near : (t : Table) (n : ℕ) → Near (types.typeAsSum t n)
+pub type-as-sum-near : (t : Table) (n : ℕ) → Near (types.typeAsSumCall t n)
 type-as-sum-near t n = sound-near t _ _ refl
 
-pub type-as-product-near : (t : Table) (n : ℕ) → Near (types.typeAsProduct t n)
+pub type-as-product-near : (t : Table) (n : ℕ) → Near (types.typeAsProductCall t n)
 type-as-product-near t n = sound-near t _ _ refl
 
 pub pad-left-near : (t : Table) (a b : ℕ) → Near (types.padLeftCall t a b)
@@ -44,37 +44,37 @@ pad-right-near t a b = sound-near t _ _ refl
 pub as-word-near : (t : Table) (n : ℕ) → Near (types.asWordCall t n)
 as-word-near t n = sound-near t _ _ refl
 
-pub word-width-near : (n : ℕ) → Near (types.wordWidth n)
+pub word-width-near : (n : ℕ) → Near (types.wordWidthCall n)
 word-width-near n = flat-near _ _ refl
 
-pub buffer-width-near : (n : ℕ) → Near (types.bufferWidth n)
+pub buffer-width-near : (n : ℕ) → Near (types.bufferWidthCall n)
 buffer-width-near n = flat-near _ _ refl
 
-pub is-buffer8-near : (t : Table) (a n : ℕ) → Near (types.isBuffer8 t a n)
+pub is-buffer8-near : (t : Table) (a n : ℕ) → Near (types.isBuffer8Call t a n)
 is-buffer8-near t a n = sound-near t _ _ refl
 
-pub is-ctx8-near : (t : Table) (a : ℕ) → Near (types.isCtx8 t a)
+pub is-ctx8-near : (t : Table) (a : ℕ) → Near (types.isCtx8Call t a)
 is-ctx8-near t a = sound-near t _ _ refl
 
-pub as-left-near : (t : Table) (r : Record) → Near (records.asLeft t r)
+pub as-left-near : (t : Table) (r : Record) → Near (records.asLeftCall t r)
 as-left-near t r = sound-near t _ _ refl
 
-pub as-right-near : (t : Table) (r : Record) → Near (records.asRight t r)
+pub as-right-near : (t : Table) (r : Record) → Near (records.asRightCall t r)
 as-right-near t r = sound-near t _ _ refl
 
-pub as-product-near : (t : Table) (r : Record) → Near (records.asProduct t r)
+pub as-product-near : (t : Table) (r : Record) → Near (records.asProductCall t r)
 as-product-near t r = sound-near t _ _ refl
 
-pub equal-near : (t : Table) (a b : Record) → Near (records.equal t a b)
+pub equal-near : (t : Table) (a b : Record) → Near (records.equalCall t a b)
 equal-near t a b = sound-near t _ _ refl
 
 pub compare-near : (t : Table) (a b : Record) → Near (records.compareCall t a b)
 compare-near t a b = sound-near t _ _ refl
 
-pub compact-len-near : (t : Table) (r : Record) → Near (records.compactLen t r)
+pub compact-len-near : (t : Table) (r : Record) → Near (records.compactLenCall t r)
 compact-len-near t r = sound-near t _ _ refl
 
-pub padded-len-near : (t : Table) (r : Record) → Near (records.paddedLen t r)
+pub padded-len-near : (t : Table) (r : Record) → Near (records.paddedLenCall t r)
 padded-len-near t r = sound-near t _ _ refl
 
 pub unit-near : (t : Table) (result : ℕ) (out : List ℕ) → Near (records.unitCall t result out)

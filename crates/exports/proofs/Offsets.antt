@@ -17,7 +17,7 @@ use borrow.Author.Tests.{leb-true}
 use Rattle.meaning.specs.Tables.{Columns, countRight}
 use Rattle.meaning.specs.Files.{Reading, faulty, found, andThen, groups, number, Entry, entryOf, entryFrom, entriesFrom, ended, tableIn}
 use Rattle.meaning.specs.Ladder.{Rung, rung, ladder}
-use Rattle.meaning.specs.TypeCalls.{fileRung, readTable}
+use Rattle.meaning.specs.TypeCalls.{fileRung, readTableCall}
 use Rattle.meaning.proofs.Tests.{and-right}
 use Rattle.exports.specs.Codes.{Near}
 use Rattle.exports.proofs.Places.{flat, flat-near}
@@ -122,5 +122,5 @@ unfolding ladder
 file-near (faulty p) rs n e h = record { near = omega arith }
 file-near (found es at) rs n e h = flat-near rs n h
 
-pub read-near : (file : List ℕ) (c : Columns) (g : List ℕ) → Near (readTable file c g)
+pub read-near : (file : List ℕ) (c : Columns) (g : List ℕ) → Near (readTableCall file c g)
 read-near file c g = file-near (tableIn file) _ _ (table-ends file) refl

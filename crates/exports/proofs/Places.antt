@@ -14,7 +14,7 @@ use lib.Dec.{eqb, ltb, leb}
 use borrow.Author.Tests.{ltb-true, leb-true, eqb-true, not-false}
 use Rattle.meaning.specs.Tables.{Columns, Table, countRight, columnsReach, firstBad, firstBadEntry}
 use Rattle.meaning.specs.Ladder.{Rung, rung, ladder}
-use Rattle.meaning.specs.TypeCalls.{fillFacts}
+use Rattle.meaning.specs.TypeCalls.{fillFactsCall}
 use Rattle.meaning.proofs.Tests.{and-left, and-right}
 use Rattle.meaning.proofs.Ladders.{shapeRight, shape-right}
 use Rattle.exports.specs.Codes.{Near}
@@ -49,7 +49,7 @@ pub sound-near : {A : Type 0} (t : Table) (rs : List Rung) (a : A) → flat rs �
 sound-near t rs a h =
     node-near (not (shapeRight t)) (firstBad t) (t .count) rs a (λ e. shape-right t (not-false (shapeRight t) e) .few-nodes) h
 
-pub fill-near : (c : Columns) (n : ℕ) (g : List ℕ) → Near (fillFacts c n g)
+pub fill-near : (c : Columns) (n : ℕ) (g : List ℕ) → Near (fillFactsCall c n g)
 fill-near c n g = node-near (not (countRight n && columnsReach c n)) (firstBadEntry c n) n _ tt few refl
   where
     few : not (countRight n && columnsReach c n) ≡ false → n ≤ 1024

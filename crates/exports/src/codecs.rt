@@ -15,14 +15,14 @@ pub extern "C" fn qv_from_compact_bits(
     groups: &[u8],
     count: usize,
     bytes: &[u8],
-    length: usize,
+    until: usize,
     position: &mut u64,
     node: usize,
     out: &mut [u8],
 ) -> u64
-    ensures { λ r. ⌜ r ≡ code (fromCompactCall (table (now (kinds .entry)) (now (lefts .entry)) (now (rights .entry)) (now (groups .entry)) count) (stream-of (now (bytes .entry)) length (now (position .entry))) node (now (out .entry))) ⌝ }
-    ensures { λ _. ⌜ now (position .exit) ≡ stored (fromCompactCall (table (now (kinds .entry)) (now (lefts .entry)) (now (rights .entry)) (now (groups .entry)) count) (stream-of (now (bytes .entry)) length (now (position .entry))) node (now (out .entry))) (now (position .entry)) ⌝ }
-    ensures { λ _. ⌜ now (out .exit) ≡ fromCompactOut (table (now (kinds .entry)) (now (lefts .entry)) (now (rights .entry)) (now (groups .entry)) count) (stream-of (now (bytes .entry)) length (now (position .entry))) node (now (out .entry)) ⌝ }
+    ensures { λ r. ⌜ r ≡ code (fromCompactCall (table (now (kinds .entry)) (now (lefts .entry)) (now (rights .entry)) (now (groups .entry)) count) (stream-of (now (bytes .entry)) until (now (position .entry))) node (now (out .entry))) ⌝ }
+    ensures { λ _. ⌜ now (position .exit) ≡ stored (fromCompactCall (table (now (kinds .entry)) (now (lefts .entry)) (now (rights .entry)) (now (groups .entry)) count) (stream-of (now (bytes .entry)) until (now (position .entry))) node (now (out .entry))) (now (position .entry)) ⌝ }
+    ensures { λ _. ⌜ now (out .exit) ≡ fromCompactOut (table (now (kinds .entry)) (now (lefts .entry)) (now (rights .entry)) (now (groups .entry)) count) (stream-of (now (bytes .entry)) until (now (position .entry))) node (now (out .entry)) ⌝ }
 {
     let from = *position as usize;
     let answer = codec::from_compact_bits(
@@ -32,7 +32,7 @@ pub extern "C" fn qv_from_compact_bits(
         groups,
         count,
         bytes,
-        length,
+        until,
         from,
         node,
         out,
@@ -49,14 +49,14 @@ pub extern "C" fn qv_from_padded_bits(
     groups: &[u8],
     count: usize,
     bytes: &[u8],
-    length: usize,
+    until: usize,
     position: &mut u64,
     node: usize,
     out: &mut [u8],
 ) -> u64
-    ensures { λ r. ⌜ r ≡ code (fromPaddedCall (table (now (kinds .entry)) (now (lefts .entry)) (now (rights .entry)) (now (groups .entry)) count) (stream-of (now (bytes .entry)) length (now (position .entry))) node (now (out .entry))) ⌝ }
-    ensures { λ _. ⌜ now (position .exit) ≡ stored (fromPaddedCall (table (now (kinds .entry)) (now (lefts .entry)) (now (rights .entry)) (now (groups .entry)) count) (stream-of (now (bytes .entry)) length (now (position .entry))) node (now (out .entry))) (now (position .entry)) ⌝ }
-    ensures { λ _. ⌜ now (out .exit) ≡ fromPaddedOut (table (now (kinds .entry)) (now (lefts .entry)) (now (rights .entry)) (now (groups .entry)) count) (stream-of (now (bytes .entry)) length (now (position .entry))) node (now (out .entry)) ⌝ }
+    ensures { λ r. ⌜ r ≡ code (fromPaddedCall (table (now (kinds .entry)) (now (lefts .entry)) (now (rights .entry)) (now (groups .entry)) count) (stream-of (now (bytes .entry)) until (now (position .entry))) node (now (out .entry))) ⌝ }
+    ensures { λ _. ⌜ now (position .exit) ≡ stored (fromPaddedCall (table (now (kinds .entry)) (now (lefts .entry)) (now (rights .entry)) (now (groups .entry)) count) (stream-of (now (bytes .entry)) until (now (position .entry))) node (now (out .entry))) (now (position .entry)) ⌝ }
+    ensures { λ _. ⌜ now (out .exit) ≡ fromPaddedOut (table (now (kinds .entry)) (now (lefts .entry)) (now (rights .entry)) (now (groups .entry)) count) (stream-of (now (bytes .entry)) until (now (position .entry))) node (now (out .entry)) ⌝ }
 {
     let from = *position as usize;
     let answer = codec::from_padded_bits(
@@ -66,7 +66,7 @@ pub extern "C" fn qv_from_padded_bits(
         groups,
         count,
         bytes,
-        length,
+        until,
         from,
         node,
         out,

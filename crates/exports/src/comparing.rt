@@ -5,7 +5,7 @@ use crate::told::tell_order;
 ghost use mathlib.Core.Path.{_≡_};
 ghost use Rattle.meaning.specs.Tables.{table};
 ghost use Rattle.meaning.specs.Ladder.{record-of};
-ghost use Rattle.meaning.specs.RecordCalls.{equal, compareCall, compactLen, paddedLen};
+ghost use Rattle.meaning.specs.RecordCalls.{equalCall, compareCall, compactLenCall, paddedLenCall};
 ghost use Rattle.exports.specs.Codes.{code, stored, storedFlag, storedOrder};
 
 // Whether two records have the same type and the same bits.
@@ -24,8 +24,8 @@ pub extern "C" fn qv_equal(
     b_node: usize,
     answer: &mut u64,
 ) -> u64
-    ensures { λ r. ⌜ r ≡ code (equal (table (now (kinds .entry)) (now (lefts .entry)) (now (rights .entry)) (now (groups .entry)) count) (record-of (now («a_bytes» .entry)) «a_offset» «a_node») (record-of (now («b_bytes» .entry)) «b_offset» «b_node»)) ⌝ }
-    ensures { λ _. ⌜ now (answer .exit) ≡ storedFlag (equal (table (now (kinds .entry)) (now (lefts .entry)) (now (rights .entry)) (now (groups .entry)) count) (record-of (now («a_bytes» .entry)) «a_offset» «a_node») (record-of (now («b_bytes» .entry)) «b_offset» «b_node»)) (now (answer .entry)) ⌝ }
+    ensures { λ r. ⌜ r ≡ code (equalCall (table (now (kinds .entry)) (now (lefts .entry)) (now (rights .entry)) (now (groups .entry)) count) (record-of (now («a_bytes» .entry)) «a_offset» «a_node») (record-of (now («b_bytes» .entry)) «b_offset» «b_node»)) ⌝ }
+    ensures { λ _. ⌜ now (answer .exit) ≡ storedFlag (equalCall (table (now (kinds .entry)) (now (lefts .entry)) (now (rights .entry)) (now (groups .entry)) count) (record-of (now («a_bytes» .entry)) «a_offset» «a_node») (record-of (now («b_bytes» .entry)) «b_offset» «b_node»)) (now (answer .entry)) ⌝ }
 {
     tell_flag(
         value::equal(
@@ -95,8 +95,8 @@ pub extern "C" fn qv_compact_len(
     node: usize,
     bits: &mut u64,
 ) -> u64
-    ensures { λ r. ⌜ r ≡ code (compactLen (table (now (kinds .entry)) (now (lefts .entry)) (now (rights .entry)) (now (groups .entry)) count) (record-of (now (bytes .entry)) offset node)) ⌝ }
-    ensures { λ _. ⌜ now (bits .exit) ≡ stored (compactLen (table (now (kinds .entry)) (now (lefts .entry)) (now (rights .entry)) (now (groups .entry)) count) (record-of (now (bytes .entry)) offset node)) (now (bits .entry)) ⌝ }
+    ensures { λ r. ⌜ r ≡ code (compactLenCall (table (now (kinds .entry)) (now (lefts .entry)) (now (rights .entry)) (now (groups .entry)) count) (record-of (now (bytes .entry)) offset node)) ⌝ }
+    ensures { λ _. ⌜ now (bits .exit) ≡ stored (compactLenCall (table (now (kinds .entry)) (now (lefts .entry)) (now (rights .entry)) (now (groups .entry)) count) (record-of (now (bytes .entry)) offset node)) (now (bits .entry)) ⌝ }
 {
     tell_count(
         codec::compact_len(kinds, lefts, rights, groups, count, bytes, offset, node),
@@ -117,8 +117,8 @@ pub extern "C" fn qv_padded_len(
     node: usize,
     bits: &mut u64,
 ) -> u64
-    ensures { λ r. ⌜ r ≡ code (paddedLen (table (now (kinds .entry)) (now (lefts .entry)) (now (rights .entry)) (now (groups .entry)) count) (record-of (now (bytes .entry)) offset node)) ⌝ }
-    ensures { λ _. ⌜ now (bits .exit) ≡ stored (paddedLen (table (now (kinds .entry)) (now (lefts .entry)) (now (rights .entry)) (now (groups .entry)) count) (record-of (now (bytes .entry)) offset node)) (now (bits .entry)) ⌝ }
+    ensures { λ r. ⌜ r ≡ code (paddedLenCall (table (now (kinds .entry)) (now (lefts .entry)) (now (rights .entry)) (now (groups .entry)) count) (record-of (now (bytes .entry)) offset node)) ⌝ }
+    ensures { λ _. ⌜ now (bits .exit) ≡ stored (paddedLenCall (table (now (kinds .entry)) (now (lefts .entry)) (now (rights .entry)) (now (groups .entry)) count) (record-of (now (bytes .entry)) offset node)) (now (bits .entry)) ⌝ }
 {
     tell_count(
         value::padded_len(kinds, lefts, rights, groups, count, bytes, offset, node),

@@ -57,15 +57,15 @@ pub extern "C" fn qv_word_from_bits(
     groups: &[u8],
     count: usize,
     bytes: &[u8],
-    length: usize,
+    until: usize,
     position: &mut u64,
     n: usize,
     node: usize,
     out: &mut [u8],
 ) -> u64
-    ensures { λ r. ⌜ r ≡ code (wordReadCall (table (now (kinds .entry)) (now (lefts .entry)) (now (rights .entry)) (now (groups .entry)) count) (stream-of (now (bytes .entry)) length (now (position .entry))) n node (now (out .entry))) ⌝ }
-    ensures { λ _. ⌜ now (position .exit) ≡ stored (wordReadCall (table (now (kinds .entry)) (now (lefts .entry)) (now (rights .entry)) (now (groups .entry)) count) (stream-of (now (bytes .entry)) length (now (position .entry))) n node (now (out .entry))) (now (position .entry)) ⌝ }
-    ensures { λ _. ⌜ now (out .exit) ≡ wordReadOut (table (now (kinds .entry)) (now (lefts .entry)) (now (rights .entry)) (now (groups .entry)) count) (stream-of (now (bytes .entry)) length (now (position .entry))) n node (now (out .entry)) ⌝ }
+    ensures { λ r. ⌜ r ≡ code (wordReadCall (table (now (kinds .entry)) (now (lefts .entry)) (now (rights .entry)) (now (groups .entry)) count) (stream-of (now (bytes .entry)) until (now (position .entry))) n node (now (out .entry))) ⌝ }
+    ensures { λ _. ⌜ now (position .exit) ≡ stored (wordReadCall (table (now (kinds .entry)) (now (lefts .entry)) (now (rights .entry)) (now (groups .entry)) count) (stream-of (now (bytes .entry)) until (now (position .entry))) n node (now (out .entry))) (now (position .entry)) ⌝ }
+    ensures { λ _. ⌜ now (out .exit) ≡ wordReadOut (table (now (kinds .entry)) (now (lefts .entry)) (now (rights .entry)) (now (groups .entry)) count) (stream-of (now (bytes .entry)) until (now (position .entry))) n node (now (out .entry)) ⌝ }
 {
     let from = *position as usize;
     let answer = words::word_from_bits(
@@ -75,7 +75,7 @@ pub extern "C" fn qv_word_from_bits(
         groups,
         count,
         bytes,
-        length,
+        until,
         from,
         n,
         node,

@@ -5,7 +5,7 @@ use crate::told::tell_flag;
 use crate::told::tell_sides;
 ghost use mathlib.Core.Path.{_≡_};
 ghost use Rattle.meaning.specs.Tables.{table};
-ghost use Rattle.meaning.specs.TypeCalls.{factsOf, sameType, isUnitCall, isEmptyCall, typeAsSum, typeAsProduct, padLeftCall, padRightCall};
+ghost use Rattle.meaning.specs.TypeCalls.{factsOfCall, sameTypeCall, isUnitCall, isEmptyCall, typeAsSumCall, typeAsProductCall, padLeftCall, padRightCall};
 ghost use Rattle.exports.specs.Codes.{code, stored, storedFlag, roomy, storedAll, factsList, sidesList};
 
 // Accepted: width, size, padded, class, kind, left and right of a node.
@@ -19,8 +19,8 @@ pub extern "C" fn qv_facts_of(
     node: usize,
     facts: &mut [u64],
 ) -> u64
-    ensures { λ r. ⌜ r ≡ code (roomy factsList (now (facts .entry)) (factsOf (table (now (kinds .entry)) (now (lefts .entry)) (now (rights .entry)) (now (groups .entry)) count) node)) ⌝ }
-    ensures { λ _. ⌜ now (facts .exit) ≡ storedAll factsList (roomy factsList (now (facts .entry)) (factsOf (table (now (kinds .entry)) (now (lefts .entry)) (now (rights .entry)) (now (groups .entry)) count) node)) (now (facts .entry)) ⌝ }
+    ensures { λ r. ⌜ r ≡ code (roomy factsList (now (facts .entry)) (factsOfCall (table (now (kinds .entry)) (now (lefts .entry)) (now (rights .entry)) (now (groups .entry)) count) node)) ⌝ }
+    ensures { λ _. ⌜ now (facts .exit) ≡ storedAll factsList (roomy factsList (now (facts .entry)) (factsOfCall (table (now (kinds .entry)) (now (lefts .entry)) (now (rights .entry)) (now (groups .entry)) count) node)) (now (facts .entry)) ⌝ }
 {
     tell_facts(
         table::facts_of(kinds, lefts, rights, groups, count, node),
@@ -40,8 +40,8 @@ pub extern "C" fn qv_same_type(
     b: usize,
     answer: &mut u64,
 ) -> u64
-    ensures { λ r. ⌜ r ≡ code (sameType (table (now (kinds .entry)) (now (lefts .entry)) (now (rights .entry)) (now (groups .entry)) count) a b) ⌝ }
-    ensures { λ _. ⌜ now (answer .exit) ≡ storedFlag (sameType (table (now (kinds .entry)) (now (lefts .entry)) (now (rights .entry)) (now (groups .entry)) count) a b) (now (answer .entry)) ⌝ }
+    ensures { λ r. ⌜ r ≡ code (sameTypeCall (table (now (kinds .entry)) (now (lefts .entry)) (now (rights .entry)) (now (groups .entry)) count) a b) ⌝ }
+    ensures { λ _. ⌜ now (answer .exit) ≡ storedFlag (sameTypeCall (table (now (kinds .entry)) (now (lefts .entry)) (now (rights .entry)) (now (groups .entry)) count) a b) (now (answer .entry)) ⌝ }
 {
     tell_flag(
         table::same_type(kinds, lefts, rights, groups, count, a, b),
@@ -100,8 +100,8 @@ pub extern "C" fn qv_type_as_sum(
     node: usize,
     sides: &mut [u64],
 ) -> u64
-    ensures { λ r. ⌜ r ≡ code (roomy sidesList (now (sides .entry)) (typeAsSum (table (now (kinds .entry)) (now (lefts .entry)) (now (rights .entry)) (now (groups .entry)) count) node)) ⌝ }
-    ensures { λ _. ⌜ now (sides .exit) ≡ storedAll sidesList (roomy sidesList (now (sides .entry)) (typeAsSum (table (now (kinds .entry)) (now (lefts .entry)) (now (rights .entry)) (now (groups .entry)) count) node)) (now (sides .entry)) ⌝ }
+    ensures { λ r. ⌜ r ≡ code (roomy sidesList (now (sides .entry)) (typeAsSumCall (table (now (kinds .entry)) (now (lefts .entry)) (now (rights .entry)) (now (groups .entry)) count) node)) ⌝ }
+    ensures { λ _. ⌜ now (sides .exit) ≡ storedAll sidesList (roomy sidesList (now (sides .entry)) (typeAsSumCall (table (now (kinds .entry)) (now (lefts .entry)) (now (rights .entry)) (now (groups .entry)) count) node)) (now (sides .entry)) ⌝ }
 {
     tell_sides(
         table::as_sum(kinds, lefts, rights, groups, count, node),
@@ -120,8 +120,8 @@ pub extern "C" fn qv_type_as_product(
     node: usize,
     sides: &mut [u64],
 ) -> u64
-    ensures { λ r. ⌜ r ≡ code (roomy sidesList (now (sides .entry)) (typeAsProduct (table (now (kinds .entry)) (now (lefts .entry)) (now (rights .entry)) (now (groups .entry)) count) node)) ⌝ }
-    ensures { λ _. ⌜ now (sides .exit) ≡ storedAll sidesList (roomy sidesList (now (sides .entry)) (typeAsProduct (table (now (kinds .entry)) (now (lefts .entry)) (now (rights .entry)) (now (groups .entry)) count) node)) (now (sides .entry)) ⌝ }
+    ensures { λ r. ⌜ r ≡ code (roomy sidesList (now (sides .entry)) (typeAsProductCall (table (now (kinds .entry)) (now (lefts .entry)) (now (rights .entry)) (now (groups .entry)) count) node)) ⌝ }
+    ensures { λ _. ⌜ now (sides .exit) ≡ storedAll sidesList (roomy sidesList (now (sides .entry)) (typeAsProductCall (table (now (kinds .entry)) (now (lefts .entry)) (now (rights .entry)) (now (groups .entry)) count) node)) (now (sides .entry)) ⌝ }
 {
     tell_sides(
         table::as_product(kinds, lefts, rights, groups, count, node),

@@ -3,7 +3,7 @@ use crate::told::tell_count;
 use crate::told::tell_done;
 ghost use mathlib.Core.Path.{_≡_};
 ghost use Rattle.meaning.specs.Tables.{table, columns};
-ghost use Rattle.meaning.specs.TypeCalls.{checkTable, fillFacts, fillFactsOut, readTable, readTableColumns, readTableGroups};
+ghost use Rattle.meaning.specs.TypeCalls.{checkTableCall, fillFactsCall, fillFactsOut, readTableCall, readTableColumnsOut, readTableGroupsOut};
 ghost use Rattle.exports.specs.Codes.{code, stored};
 
 // Reads a table from its file into lent columns, with the groups of its facts. Accepted: its count.
@@ -16,12 +16,12 @@ pub extern "C" fn qv_read_table(
     groups: &mut [u8],
     count: &mut u64,
 ) -> u64
-    ensures { λ r. ⌜ r ≡ code (readTable (now (file .entry)) (columns (now (kinds .entry)) (now (lefts .entry)) (now (rights .entry))) (now (groups .entry))) ⌝ }
-    ensures { λ _. ⌜ now (count .exit) ≡ stored (readTable (now (file .entry)) (columns (now (kinds .entry)) (now (lefts .entry)) (now (rights .entry))) (now (groups .entry))) (now (count .entry)) ⌝ }
-    ensures { λ _. ⌜ now (kinds .exit) ≡ readTableColumns (now (file .entry)) (columns (now (kinds .entry)) (now (lefts .entry)) (now (rights .entry))) (now (groups .entry)) .kinds ⌝ }
-    ensures { λ _. ⌜ now (lefts .exit) ≡ readTableColumns (now (file .entry)) (columns (now (kinds .entry)) (now (lefts .entry)) (now (rights .entry))) (now (groups .entry)) .lefts ⌝ }
-    ensures { λ _. ⌜ now (rights .exit) ≡ readTableColumns (now (file .entry)) (columns (now (kinds .entry)) (now (lefts .entry)) (now (rights .entry))) (now (groups .entry)) .rights ⌝ }
-    ensures { λ _. ⌜ now (groups .exit) ≡ readTableGroups (now (file .entry)) (columns (now (kinds .entry)) (now (lefts .entry)) (now (rights .entry))) (now (groups .entry)) ⌝ }
+    ensures { λ r. ⌜ r ≡ code (readTableCall (now (file .entry)) (columns (now (kinds .entry)) (now (lefts .entry)) (now (rights .entry))) (now (groups .entry))) ⌝ }
+    ensures { λ _. ⌜ now (count .exit) ≡ stored (readTableCall (now (file .entry)) (columns (now (kinds .entry)) (now (lefts .entry)) (now (rights .entry))) (now (groups .entry))) (now (count .entry)) ⌝ }
+    ensures { λ _. ⌜ now (kinds .exit) ≡ readTableColumnsOut (now (file .entry)) (columns (now (kinds .entry)) (now (lefts .entry)) (now (rights .entry))) (now (groups .entry)) .kinds ⌝ }
+    ensures { λ _. ⌜ now (lefts .exit) ≡ readTableColumnsOut (now (file .entry)) (columns (now (kinds .entry)) (now (lefts .entry)) (now (rights .entry))) (now (groups .entry)) .lefts ⌝ }
+    ensures { λ _. ⌜ now (rights .exit) ≡ readTableColumnsOut (now (file .entry)) (columns (now (kinds .entry)) (now (lefts .entry)) (now (rights .entry))) (now (groups .entry)) .rights ⌝ }
+    ensures { λ _. ⌜ now (groups .exit) ≡ readTableGroupsOut (now (file .entry)) (columns (now (kinds .entry)) (now (lefts .entry)) (now (rights .entry))) (now (groups .entry)) ⌝ }
 {
     tell_count(table::read_table(file, kinds, lefts, rights, groups), count)
 }
@@ -35,7 +35,7 @@ pub extern "C" fn qv_fill_facts(
     count: usize,
     groups: &mut [u8],
 ) -> u64
-    ensures { λ r. ⌜ r ≡ code (fillFacts (columns (now (kinds .entry)) (now (lefts .entry)) (now (rights .entry))) count (now (groups .entry))) ⌝ }
+    ensures { λ r. ⌜ r ≡ code (fillFactsCall (columns (now (kinds .entry)) (now (lefts .entry)) (now (rights .entry))) count (now (groups .entry))) ⌝ }
     ensures { λ _. ⌜ now (groups .exit) ≡ fillFactsOut (columns (now (kinds .entry)) (now (lefts .entry)) (now (rights .entry))) count (now (groups .entry)) ⌝ }
 {
     tell_done(table::fill_facts(kinds, lefts, rights, count, groups))
@@ -50,7 +50,7 @@ pub extern "C" fn qv_check_table(
     groups: &[u8],
     count: usize,
 ) -> u64
-    ensures { λ r. ⌜ r ≡ code (checkTable (table (now (kinds .entry)) (now (lefts .entry)) (now (rights .entry)) (now (groups .entry)) count)) ⌝ }
+    ensures { λ r. ⌜ r ≡ code (checkTableCall (table (now (kinds .entry)) (now (lefts .entry)) (now (rights .entry)) (now (groups .entry)) count)) ⌝ }
 {
     tell_done(table::check_table(kinds, lefts, rights, groups, count))
 }

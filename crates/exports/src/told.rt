@@ -1,15 +1,15 @@
 // An answer as it crosses to C: number and place as one number, and what was accepted stored where the caller lends room for it. A refusal
 // stores nothing. Inner: a refusal's place is a node or an offset of a table's file, so that number and place fit 64 bits.
-use answers::Compared;
 use answers::Count;
 use answers::Done;
+use answers::FactsAnswer;
 use answers::Flag;
 use answers::Order;
-use answers::Parted;
+use answers::OrderAnswer;
 use answers::Refusal;
-use answers::Seen;
-use answers::Sided;
-use answers::Told;
+use answers::SidesAnswer;
+use answers::SpotAnswer;
+use answers::SpotsAnswer;
 ghost use mathlib.Core.Path.{_≡_};
 ghost use mathlib.Core.Bool.{cond};
 ghost use mathlib.Core.List.{_++_};
@@ -100,27 +100,27 @@ pub(crate) fn tell_flag(answer: Flag, value: &mut u64) -> u64
     }
 }
 
-pub(crate) fn tell_order(answer: Compared, value: &mut u64) -> u64
+pub(crate) fn tell_order(answer: OrderAnswer, value: &mut u64) -> u64
     requires { ⌜ Near (orderOf answer) ⌝ }
     ensures { λ r. ⌜ r ≡ code (orderOf answer) ⌝ }
     ensures { λ _. ⌜ now (value .exit) ≡ storedOrder (orderOf answer) (now (value .entry)) ⌝ }
 {
     match answer {
-        Compared::Is(o) => {
+        OrderAnswer::Is(o) => {
             *value = rank_of(o);
             0
         }
-        Compared::Refused(r) => refusal_code(r),
+        OrderAnswer::Refused(r) => refusal_code(r),
     }
 }
 
-pub(crate) fn tell_facts(answer: Told, lent: &mut [u64]) -> u64
+pub(crate) fn tell_facts(answer: FactsAnswer, lent: &mut [u64]) -> u64
     requires { ⌜ Near (factsOf answer) ⌝ }
     ensures { λ r. ⌜ r ≡ code (roomy factsList (now (lent .entry)) (factsOf answer)) ⌝ }
     ensures { λ _. ⌜ now (lent .exit) ≡ storedAll factsList (roomy factsList (now (lent .entry)) (factsOf answer)) (now (lent .entry)) ⌝ }
 {
     match answer {
-        Told::Are(f) => {
+        FactsAnswer::Are(f) => {
             let values = [
                 f.width,
                 f.size,
@@ -132,45 +132,45 @@ pub(crate) fn tell_facts(answer: Told, lent: &mut [u64]) -> u64
             ];
             store(&values, lent)
         }
-        Told::Refused(r) => refusal_code(r),
+        FactsAnswer::Refused(r) => refusal_code(r),
     }
 }
 
-pub(crate) fn tell_sides(answer: Sided, lent: &mut [u64]) -> u64
+pub(crate) fn tell_sides(answer: SidesAnswer, lent: &mut [u64]) -> u64
     requires { ⌜ Near (sidesOf answer) ⌝ }
     ensures { λ r. ⌜ r ≡ code (roomy sidesList (now (lent .entry)) (sidesOf answer)) ⌝ }
     ensures { λ _. ⌜ now (lent .exit) ≡ storedAll sidesList (roomy sidesList (now (lent .entry)) (sidesOf answer)) (now (lent .entry)) ⌝ }
 {
     match answer {
-        Sided::Are(s) => {
+        SidesAnswer::Are(s) => {
             let values = [s.left as u64, s.right as u64];
             store(&values, lent)
         }
-        Sided::Refused(r) => refusal_code(r),
+        SidesAnswer::Refused(r) => refusal_code(r),
     }
 }
 
-pub(crate) fn tell_view(answer: Seen, lent: &mut [u64]) -> u64
+pub(crate) fn tell_view(answer: SpotAnswer, lent: &mut [u64]) -> u64
     requires { ⌜ Near (spotOf answer) ⌝ }
     ensures { λ r. ⌜ r ≡ code (roomy spotList (now (lent .entry)) (spotOf answer)) ⌝ }
     ensures { λ _. ⌜ now (lent .exit) ≡ storedAll spotList (roomy spotList (now (lent .entry)) (spotOf answer)) (now (lent .entry)) ⌝ }
 {
     match answer {
-        Seen::At(s) => {
+        SpotAnswer::At(s) => {
             let values = [s.offset as u64, s.node as u64];
             store(&values, lent)
         }
-        Seen::Refused(r) => refusal_code(r),
+        SpotAnswer::Refused(r) => refusal_code(r),
     }
 }
 
-pub(crate) fn tell_views(answer: Parted, lent: &mut [u64]) -> u64
+pub(crate) fn tell_views(answer: SpotsAnswer, lent: &mut [u64]) -> u64
     requires { ⌜ Near (spotsOf answer) ⌝ }
     ensures { λ r. ⌜ r ≡ code (roomy spotsList (now (lent .entry)) (spotsOf answer)) ⌝ }
     ensures { λ _. ⌜ now (lent .exit) ≡ storedAll spotsList (roomy spotsList (now (lent .entry)) (spotsOf answer)) (now (lent .entry)) ⌝ }
 {
     match answer {
-        Parted::At(a, b) => {
+        SpotsAnswer::At(a, b) => {
             let values = [
                 a.offset as u64,
                 a.node as u64,
@@ -179,6 +179,6 @@ pub(crate) fn tell_views(answer: Parted, lent: &mut [u64]) -> u64
             ];
             store(&values, lent)
         }
-        Parted::Refused(r) => refusal_code(r),
+        SpotsAnswer::Refused(r) => refusal_code(r),
     }
 }

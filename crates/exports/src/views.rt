@@ -4,7 +4,7 @@ use crate::told::tell_views;
 ghost use mathlib.Core.Path.{_≡_};
 ghost use Rattle.meaning.specs.Tables.{table};
 ghost use Rattle.meaning.specs.Ladder.{record-of};
-ghost use Rattle.meaning.specs.RecordCalls.{asLeft, asRight, asProduct};
+ghost use Rattle.meaning.specs.RecordCalls.{asLeftCall, asRightCall, asProductCall};
 ghost use Rattle.exports.specs.Codes.{code, roomy, storedAll, spotList, spotsList};
 
 // Accepted: offset and node of the payload of a left record.
@@ -20,8 +20,8 @@ pub extern "C" fn qv_as_left(
     node: usize,
     view: &mut [u64],
 ) -> u64
-    ensures { λ r. ⌜ r ≡ code (roomy spotList (now (view .entry)) (asLeft (table (now (kinds .entry)) (now (lefts .entry)) (now (rights .entry)) (now (groups .entry)) count) (record-of (now (bytes .entry)) offset node))) ⌝ }
-    ensures { λ _. ⌜ now (view .exit) ≡ storedAll spotList (roomy spotList (now (view .entry)) (asLeft (table (now (kinds .entry)) (now (lefts .entry)) (now (rights .entry)) (now (groups .entry)) count) (record-of (now (bytes .entry)) offset node))) (now (view .entry)) ⌝ }
+    ensures { λ r. ⌜ r ≡ code (roomy spotList (now (view .entry)) (asLeftCall (table (now (kinds .entry)) (now (lefts .entry)) (now (rights .entry)) (now (groups .entry)) count) (record-of (now (bytes .entry)) offset node))) ⌝ }
+    ensures { λ _. ⌜ now (view .exit) ≡ storedAll spotList (roomy spotList (now (view .entry)) (asLeftCall (table (now (kinds .entry)) (now (lefts .entry)) (now (rights .entry)) (now (groups .entry)) count) (record-of (now (bytes .entry)) offset node))) (now (view .entry)) ⌝ }
 {
     tell_view(
         value::as_left(kinds, lefts, rights, groups, count, bytes, offset, node),
@@ -42,8 +42,8 @@ pub extern "C" fn qv_as_right(
     node: usize,
     view: &mut [u64],
 ) -> u64
-    ensures { λ r. ⌜ r ≡ code (roomy spotList (now (view .entry)) (asRight (table (now (kinds .entry)) (now (lefts .entry)) (now (rights .entry)) (now (groups .entry)) count) (record-of (now (bytes .entry)) offset node))) ⌝ }
-    ensures { λ _. ⌜ now (view .exit) ≡ storedAll spotList (roomy spotList (now (view .entry)) (asRight (table (now (kinds .entry)) (now (lefts .entry)) (now (rights .entry)) (now (groups .entry)) count) (record-of (now (bytes .entry)) offset node))) (now (view .entry)) ⌝ }
+    ensures { λ r. ⌜ r ≡ code (roomy spotList (now (view .entry)) (asRightCall (table (now (kinds .entry)) (now (lefts .entry)) (now (rights .entry)) (now (groups .entry)) count) (record-of (now (bytes .entry)) offset node))) ⌝ }
+    ensures { λ _. ⌜ now (view .exit) ≡ storedAll spotList (roomy spotList (now (view .entry)) (asRightCall (table (now (kinds .entry)) (now (lefts .entry)) (now (rights .entry)) (now (groups .entry)) count) (record-of (now (bytes .entry)) offset node))) (now (view .entry)) ⌝ }
 {
     tell_view(
         value::as_right(kinds, lefts, rights, groups, count, bytes, offset, node),
@@ -64,8 +64,8 @@ pub extern "C" fn qv_as_product(
     node: usize,
     views: &mut [u64],
 ) -> u64
-    ensures { λ r. ⌜ r ≡ code (roomy spotsList (now (views .entry)) (asProduct (table (now (kinds .entry)) (now (lefts .entry)) (now (rights .entry)) (now (groups .entry)) count) (record-of (now (bytes .entry)) offset node))) ⌝ }
-    ensures { λ _. ⌜ now (views .exit) ≡ storedAll spotsList (roomy spotsList (now (views .entry)) (asProduct (table (now (kinds .entry)) (now (lefts .entry)) (now (rights .entry)) (now (groups .entry)) count) (record-of (now (bytes .entry)) offset node))) (now (views .entry)) ⌝ }
+    ensures { λ r. ⌜ r ≡ code (roomy spotsList (now (views .entry)) (asProductCall (table (now (kinds .entry)) (now (lefts .entry)) (now (rights .entry)) (now (groups .entry)) count) (record-of (now (bytes .entry)) offset node))) ⌝ }
+    ensures { λ _. ⌜ now (views .exit) ≡ storedAll spotsList (roomy spotsList (now (views .entry)) (asProductCall (table (now (kinds .entry)) (now (lefts .entry)) (now (rights .entry)) (now (groups .entry)) count) (record-of (now (bytes .entry)) offset node))) (now (views .entry)) ⌝ }
 {
     tell_views(
         value::as_product(kinds, lefts, rights, groups, count, bytes, offset, node),

@@ -3,7 +3,7 @@ use crate::told::tell_count;
 use crate::told::tell_flag;
 ghost use mathlib.Core.Path.{_≡_};
 ghost use Rattle.meaning.specs.Tables.{table};
-ghost use Rattle.meaning.specs.TypeCalls.{asWordCall, wordWidth, bufferWidth, isBuffer8, isCtx8};
+ghost use Rattle.meaning.specs.TypeCalls.{asWordCall, wordWidthCall, bufferWidthCall, isBuffer8Call, isCtx8Call};
 ghost use Rattle.exports.specs.Codes.{code, stored, storedFlag};
 
 // Accepted: the n of a word type.
@@ -26,8 +26,8 @@ pub extern "C" fn qv_as_word(
 // Accepted: the width of word type n.
 #[no_mangle]
 pub extern "C" fn qv_word_width(n: usize, width: &mut u64) -> u64
-    ensures { λ r. ⌜ r ≡ code (wordWidth n) ⌝ }
-    ensures { λ _. ⌜ now (width .exit) ≡ stored (wordWidth n) (now (width .entry)) ⌝ }
+    ensures { λ r. ⌜ r ≡ code (wordWidthCall n) ⌝ }
+    ensures { λ _. ⌜ now (width .exit) ≡ stored (wordWidthCall n) (now (width .entry)) ⌝ }
 {
     tell_count(table::word_width(n), width)
 }
@@ -35,8 +35,8 @@ pub extern "C" fn qv_word_width(n: usize, width: &mut u64) -> u64
 // Accepted: the width of buffer type n.
 #[no_mangle]
 pub extern "C" fn qv_buffer_width(n: usize, width: &mut u64) -> u64
-    ensures { λ r. ⌜ r ≡ code (bufferWidth n) ⌝ }
-    ensures { λ _. ⌜ now (width .exit) ≡ stored (bufferWidth n) (now (width .entry)) ⌝ }
+    ensures { λ r. ⌜ r ≡ code (bufferWidthCall n) ⌝ }
+    ensures { λ _. ⌜ now (width .exit) ≡ stored (bufferWidthCall n) (now (width .entry)) ⌝ }
 {
     tell_count(table::buffer_width(n), width)
 }
@@ -53,8 +53,8 @@ pub extern "C" fn qv_is_buffer8(
     n: usize,
     answer: &mut u64,
 ) -> u64
-    ensures { λ r. ⌜ r ≡ code (isBuffer8 (table (now (kinds .entry)) (now (lefts .entry)) (now (rights .entry)) (now (groups .entry)) count) node n) ⌝ }
-    ensures { λ _. ⌜ now (answer .exit) ≡ storedFlag (isBuffer8 (table (now (kinds .entry)) (now (lefts .entry)) (now (rights .entry)) (now (groups .entry)) count) node n) (now (answer .entry)) ⌝ }
+    ensures { λ r. ⌜ r ≡ code (isBuffer8Call (table (now (kinds .entry)) (now (lefts .entry)) (now (rights .entry)) (now (groups .entry)) count) node n) ⌝ }
+    ensures { λ _. ⌜ now (answer .exit) ≡ storedFlag (isBuffer8Call (table (now (kinds .entry)) (now (lefts .entry)) (now (rights .entry)) (now (groups .entry)) count) node n) (now (answer .entry)) ⌝ }
 {
     tell_flag(
         table::is_buffer8(kinds, lefts, rights, groups, count, node, n),
@@ -73,8 +73,8 @@ pub extern "C" fn qv_is_ctx8(
     node: usize,
     answer: &mut u64,
 ) -> u64
-    ensures { λ r. ⌜ r ≡ code (isCtx8 (table (now (kinds .entry)) (now (lefts .entry)) (now (rights .entry)) (now (groups .entry)) count) node) ⌝ }
-    ensures { λ _. ⌜ now (answer .exit) ≡ storedFlag (isCtx8 (table (now (kinds .entry)) (now (lefts .entry)) (now (rights .entry)) (now (groups .entry)) count) node) (now (answer .entry)) ⌝ }
+    ensures { λ r. ⌜ r ≡ code (isCtx8Call (table (now (kinds .entry)) (now (lefts .entry)) (now (rights .entry)) (now (groups .entry)) count) node) ⌝ }
+    ensures { λ _. ⌜ now (answer .exit) ≡ storedFlag (isCtx8Call (table (now (kinds .entry)) (now (lefts .entry)) (now (rights .entry)) (now (groups .entry)) count) node) (now (answer .entry)) ⌝ }
 {
     tell_flag(
         table::is_ctx8(kinds, lefts, rights, groups, count, node),

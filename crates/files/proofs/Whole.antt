@@ -17,7 +17,7 @@ use borrow.Author.Tests.{lt-ltb, le-ltb}
 use Rattle.meaning.specs.Tables.{Columns, countRight, columnsReach, groupsReach}
 use Rattle.meaning.specs.Files.{Reading, faulty, found, number, andThen, ended, Entry, entryFrom, entriesFrom, tableIn}
 use Rattle.meaning.specs.Ladder.{Answer, refused, accepted, rung, ladder}
-use Rattle.meaning.specs.TypeCalls.{fileRung, entriesIn, readTable}
+use Rattle.meaning.specs.TypeCalls.{fileRung, entriesIn, readTableCall}
 use Rattle.meaning.proofs.Ladders.{accepted-refused}
 use Rattle.files.specs.Readings.{fileVerdict}
 use Rattle.files.proofs.Entries.{ReadTo, firstNodes, read-length, read-fault, entries-length}
@@ -82,7 +82,7 @@ pub accepted-found : (r : Reading (List Entry)) (n : ℕ) → fileVerdict r ≡ 
 accepted-found (faulty p) n e = absurd (accepted-refused n 1 p (sym e))
 accepted-found (found es at) n e = refl
 
-pub read-refused : (file : List ℕ) (c : Columns) (g : List ℕ) (p : ℕ) → fileVerdict (tableIn file) ≡ refused 1 p → readTable file c g ≡ refused 1 p
+pub read-refused : (file : List ℕ) (c : Columns) (g : List ℕ) (p : ℕ) → fileVerdict (tableIn file) ≡ refused 1 p → readTableCall file c g ≡ refused 1 p
 unfolding ladder
 read-refused file c g p e = by-cases (tableIn file) e
   where
@@ -95,7 +95,7 @@ read-refused file c g p e = by-cases (tableIn file) e
     by-cases (found es at) h = absurd (accepted-refused (length es) 1 p h)
 
 pub read-accepted : (file : List ℕ) (c : Columns) (g : List ℕ) (n : ℕ) → fileVerdict (tableIn file) ≡ accepted n
-    → readTable file c g ≡ ladder (rung (not (columnsReach c n && groupsReach g n)) 9 0 ∷ []) n
+    → readTableCall file c g ≡ ladder (rung (not (columnsReach c n && groupsReach g n)) 9 0 ∷ []) n
 unfolding ladder
 read-accepted file c g n e =
     rw (accepted-found (tableIn file) n e)

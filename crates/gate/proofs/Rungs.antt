@@ -28,7 +28,7 @@ use Rattle.meaning.specs.Ladder.{Answer, refused, accepted, Rung, rung, ladder,
 use Rattle.meaning.specs.CodecCalls.{readRungs}
 use Rattle.meaning.specs.RecordCalls.{handed}
 use lib.ListN.{length}
-use Rattle.meaning.specs.TypeCalls.{checkTable}
+use Rattle.meaning.specs.TypeCalls.{checkTableCall}
 use Rattle.meaning.proofs.Ladders.{Shape, shapeRight, shape-right, right-shape, ladder-pass, ladder-stop, ladder-holds, ladder-fails}
 
 -- A test that cannot pass fails.
@@ -36,17 +36,17 @@ fails : (b : Bool) → (b ≡ true → ⊥) → b ≡ false
 fails true f = absurd (f refl)
 fails false f = refl
 
-pub misshaped : (t : Table) → (Shape t → ⊥) → checkTable t ≡ refused 1 0
+pub misshaped : (t : Table) → (Shape t → ⊥) → checkTableCall t ≡ refused 1 0
 misshaped t f =
     ladder-holds (not (shapeRight t)) 1 0 (rung (ltb (firstBad t) (t .count)) 1 (firstBad t) ∷ []) (tt {0})
     (ap not (fails (shapeRight t) (λ h. f (shape-right t h))))
 
-pub faulty-node : (t : Table) → Shape t → firstBad t < t .count → checkTable t ≡ refused 1 (firstBad t)
+pub faulty-node : (t : Table) → Shape t → firstBad t < t .count → checkTableCall t ≡ refused 1 (firstBad t)
 faulty-node t s h =
     ladder-fails (not (shapeRight t)) 1 0 (rung (ltb (firstBad t) (t .count)) 1 (firstBad t) ∷ []) (tt {0}) (ap not (right-shape t s))
     ∙ ladder-holds (ltb (firstBad t) (t .count)) 1 (firstBad t) [] (tt {0}) (lt-ltb (firstBad t) (t .count) h)
 
-pub faultless : (t : Table) → Shape t → t .count ≤ firstBad t → checkTable t ≡ accepted (tt {0})
+pub faultless : (t : Table) → Shape t → t .count ≤ firstBad t → checkTableCall t ≡ accepted (tt {0})
 unfolding ladder
 faultless t s h =
     ladder-fails (not (shapeRight t)) 1 0 (rung (ltb (firstBad t) (t .count)) 1 (firstBad t) ∷ []) (tt {0}) (ap not (right-shape t s))
@@ -99,10 +99,10 @@ pub wide-bits : (t : Ty) → ltb 524288 (width t) ≡ ltb 524288 (bits t)
 wide-bits t = let e = width-bits t in same-test 524288 (width t) 524288 (bits t) (λ h. omega arith) (λ h. omega arith)
 
 module _ (t : Table) (ns : List ℕ) where
-  pub named-stop : (n p : ℕ) → refused n p ≡ checkTable t → refused n p ≡ ladder (named t ns) (tt {0})
+  pub named-stop : (n p : ℕ) → refused n p ≡ checkTableCall t → refused n p ≡ ladder (named t ns) (tt {0})
   named-stop n p h = sym (ladder-stop (sound t) (present t ns ++ small t ns) (tt {0}) (tt {0}) n p (sym h))
 
-  after-sound : checkTable t ≡ accepted (tt {0}) → ladder (named t ns) (tt {0}) ≡ ladder (present t ns ++ small t ns) (tt {0})
+  after-sound : checkTableCall t ≡ accepted (tt {0}) → ladder (named t ns) (tt {0}) ≡ ladder (present t ns ++ small t ns) (tt {0})
   after-sound h = ladder-pass (sound t) (present t ns ++ small t ns) (tt {0}) (tt {0}) (tt {0}) h
 
   abbrev pub missing : Bool
@@ -114,21 +114,21 @@ module _ (t : Table) (ns : List ℕ) where
   abbrev pub tooLarge : Bool
   tooLarge = any (λ n. ltb 2097152 (size (tyAt (t .columns) n))) ns
 
-  pub named-missing : checkTable t ≡ accepted (tt {0}) → missing ≡ true → refused 2 0 ≡ ladder (named t ns) (tt {0})
+  pub named-missing : checkTableCall t ≡ accepted (tt {0}) → missing ≡ true → refused 2 0 ≡ ladder (named t ns) (tt {0})
   named-missing h m = sym (after-sound h ∙ ladder-holds missing 2 0 (small t ns) (tt {0}) m)
 
-  pub named-wide : checkTable t ≡ accepted (tt {0}) → missing ≡ false → tooWide ≡ true → refused 3 0 ≡ ladder (named t ns) (tt {0})
+  pub named-wide : checkTableCall t ≡ accepted (tt {0}) → missing ≡ false → tooWide ≡ true → refused 3 0 ≡ ladder (named t ns) (tt {0})
   named-wide h m w =
       sym
       (after-sound h ∙ ladder-fails missing 2 0 (small t ns) (tt {0}) m ∙ ladder-holds tooWide 3 0 (rung tooLarge 4 0 ∷ []) (tt {0}) w)
 
-  pub named-large : checkTable t ≡ accepted (tt {0}) → missing ≡ false → tooWide ≡ false → tooLarge ≡ true → refused 4 0 ≡ ladder (named t ns) (tt {0})
+  pub named-large : checkTableCall t ≡ accepted (tt {0}) → missing ≡ false → tooWide ≡ false → tooLarge ≡ true → refused 4 0 ≡ ladder (named t ns) (tt {0})
   named-large h m w l =
       sym
       (after-sound h ∙ ladder-fails missing 2 0 (small t ns) (tt {0}) m ∙ ladder-fails tooWide 3 0 (rung tooLarge 4 0 ∷ []) (tt {0}) w
       ∙ ladder-holds tooLarge 4 0 [] (tt {0}) l)
 
-  pub named-pass : checkTable t ≡ accepted (tt {0}) → missing ≡ false → tooWide ≡ false → tooLarge ≡ false → accepted (tt {0}) ≡ ladder (named t ns) (tt {0})
+  pub named-pass : checkTableCall t ≡ accepted (tt {0}) → missing ≡ false → tooWide ≡ false → tooLarge ≡ false → accepted (tt {0}) ≡ ladder (named t ns) (tt {0})
   unfolding ladder
   named-pass h m w l =
       sym

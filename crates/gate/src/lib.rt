@@ -11,55 +11,37 @@ ghost use Rattle.meaning.specs.Types.{bits, size};
 ghost use Rattle.meaning.specs.Tables.{table, columns, tyAt};
 ghost use Rattle.meaning.specs.Checked.{Sound};
 ghost use Rattle.meaning.specs.Ladder.{refused, ladder, named, record-of, stream-of};
-ghost use Rattle.meaning.specs.TypeCalls.{checkTable};
+ghost use Rattle.meaning.specs.TypeCalls.{checkTableCall};
 ghost use Rattle.meaning.specs.RecordCalls.{handed};
 ghost use Rattle.meaning.specs.CodecCalls.{readRungs};
 ghost use Rattle.answers.specs.Verdicts.{doneOf};
 
 // 1: the table is sound.
 pub fn sound(kinds: &[u8], lefts: &[u16], rights: &[u16], groups: &[u8], count: usize) -> Done
-    ensures { λ r. ⌜ doneOf r ≡ checkTable (table (now (kinds .entry)) (now (lefts .entry)) (now (rights .entry)) (now (groups .entry)) count) ⌝ }
+    ensures { λ r. ⌜ doneOf r ≡ checkTableCall (table (now (kinds .entry)) (now (lefts .entry)) (now (rights .entry)) (now (groups .entry)) count) ⌝ }
 {
     if count == 0 {
-        return Done::Refused(Refusal {
-            number: 1,
-            place: 0,
-        });
+        return Done::Refused(answers::UNSOUND);
     }
     if 1024 < count {
-        return Done::Refused(Refusal {
-            number: 1,
-            place: 0,
-        });
+        return Done::Refused(answers::UNSOUND);
     }
     if kinds.len() < count {
-        return Done::Refused(Refusal {
-            number: 1,
-            place: 0,
-        });
+        return Done::Refused(answers::UNSOUND);
     }
     if lefts.len() < count {
-        return Done::Refused(Refusal {
-            number: 1,
-            place: 0,
-        });
+        return Done::Refused(answers::UNSOUND);
     }
     if rights.len() < count {
-        return Done::Refused(Refusal {
-            number: 1,
-            place: 0,
-        });
+        return Done::Refused(answers::UNSOUND);
     }
     if groups.len() < groups::GROUP_BYTES * count {
-        return Done::Refused(Refusal {
-            number: 1,
-            place: 0,
-        });
+        return Done::Refused(answers::UNSOUND);
     }
     let bad = facts::first_bad(kinds, lefts, rights, groups, count);
     if bad < count {
         return Done::Refused(Refusal {
-            number: 1,
+            number: answers::UNSOUND_NUMBER,
             place: bad,
         });
     }
@@ -110,10 +92,7 @@ pub fn nodes(
         return Done::Refused(r);
     }
     if outside(count, a, b, c) {
-        return Done::Refused(Refusal {
-            number: 2,
-            place: 0,
-        });
+        return Done::Refused(answers::NO_SUCH_NODE);
     }
     if above(
         524288,
@@ -121,10 +100,7 @@ pub fn nodes(
         groups::width_at(groups, b),
         groups::width_at(groups, c),
     ) {
-        return Done::Refused(Refusal {
-            number: 3,
-            place: 0,
-        });
+        return Done::Refused(answers::TOO_WIDE);
     }
     if above(
         2097152,
@@ -132,10 +108,7 @@ pub fn nodes(
         groups::size_at(groups, b),
         groups::size_at(groups, c),
     ) {
-        return Done::Refused(Refusal {
-            number: 4,
-            place: 0,
-        });
+        return Done::Refused(answers::TOO_LARGE);
     }
     Done::Accepted
 }
@@ -178,16 +151,10 @@ pub fn two_to(
         return Done::Refused(r);
     }
     if past(a_bytes.len(), a_offset, groups::width_at(groups, a_node)) {
-        return Done::Refused(Refusal {
-            number: 5,
-            place: 0,
-        });
+        return Done::Refused(answers::OUT_OF_BYTES);
     }
     if past(b_bytes.len(), b_offset, groups::width_at(groups, b_node)) {
-        return Done::Refused(Refusal {
-            number: 5,
-            place: 0,
-        });
+        return Done::Refused(answers::OUT_OF_BYTES);
     }
     Done::Accepted
 }
@@ -319,27 +286,21 @@ pub fn stream(
     groups: &[u8],
     count: usize,
     bytes: &[u8],
-    length: usize,
+    until: usize,
     position: usize,
     node: usize,
 ) -> Done
-    ensures { λ r. ⌜ doneOf r ≡ ladder (readRungs (table (now (kinds .entry)) (now (lefts .entry)) (now (rights .entry)) (now (groups .entry)) count) (stream-of (now (bytes .entry)) length position) node) (tt {0}) ⌝ }
+    ensures { λ r. ⌜ doneOf r ≡ ladder (readRungs (table (now (kinds .entry)) (now (lefts .entry)) (now (rights .entry)) (now (groups .entry)) count) (stream-of (now (bytes .entry)) until position) node) (tt {0}) ⌝ }
 {
     let judged = nodes(kinds, lefts, rights, groups, count, node, node, node);
     if let Done::Refused(r) = judged {
         return Done::Refused(r);
     }
-    if past(bytes.len(), length, 0) {
-        return Done::Refused(Refusal {
-            number: 5,
-            place: 0,
-        });
+    if past(bytes.len(), until, 0) {
+        return Done::Refused(answers::OUT_OF_BYTES);
     }
-    if length < position {
-        return Done::Refused(Refusal {
-            number: 5,
-            place: 0,
-        });
+    if until < position {
+        return Done::Refused(answers::OUT_OF_BYTES);
     }
     Done::Accepted
 }

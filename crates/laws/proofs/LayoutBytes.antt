@@ -21,7 +21,7 @@ use Rattle.meaning.specs.Tables.{Columns, Facts, factsIn, entryRight, factsRigh
 use Rattle.meaning.specs.Files.{columnsOf}
 use Rattle.meaning.specs.Ladder.{Answer, refused, accepted, Rung, ladder, kept, sound}
 use Rattle.meaning.specs.Checked.{Bytes}
-use Rattle.meaning.specs.TypeCalls.{groupOf, groupsOf, fillFacts, fillFactsOut, readTable, readTableGroups}
+use Rattle.meaning.specs.TypeCalls.{groupOf, groupsOf, fillFactsCall, fillFactsOut, readTableCall, readTableGroupsOut}
 use Rattle.meaning.proofs.Choices.{either, least-unique, least-none}
 use Rattle.meaning.proofs.Ladders.{ladder-holds, ladder-fails, bad}
 use Rattle.meaning.proofs.Groups.{fact-at, groups-reach}
@@ -129,14 +129,14 @@ kept-later (refused q p) m front g e = refl
 kept-later (accepted v) m front g e = drop-at front (drop m g) m e
 
 pub fill-later : (c : Columns) (n : ℕ) (g : List ℕ) → drop (groupSize * n) (fillFactsOut c n g) ≡ drop (groupSize * n) g
-fill-later c n g = kept-later (fillFacts c n g) (groupSize * n) (groupsOf c n) g (length-groupsOf c n)
+fill-later c n g = kept-later (fillFactsCall c n g) (groupSize * n) (groupsOf c n) g (length-groupsOf c n)
 
 pub read-later : (file : List ℕ) (c : Columns) (g : List ℕ)
-    → drop (groupSize * length (nodesIn file)) (readTableGroups file c g) ≡ drop (groupSize * length (nodesIn file)) g
+    → drop (groupSize * length (nodesIn file)) (readTableGroupsOut file c g) ≡ drop (groupSize * length (nodesIn file)) g
 read-later file c g =
     let n = length (nodesIn file) in
     let d = columnsOf (nodesIn file) in
-    kept-later (readTable file c g) (groupSize * n) (groupsOf d n) g (length-groupsOf d n)
+    kept-later (readTableCall file c g) (groupSize * n) (groupsOf d n) g (length-groupsOf d n)
 
 pub short-refused : {A : Type 0} (c : Columns) (n : ℕ) (g : List ℕ) (rs : List Rung) (a : A) → length g < groupSize * n
     → ladder (sound (tableWith c n (factsIn g)) ++ rs) a ≡ refused 1 0
@@ -145,7 +145,7 @@ short-refused c n g rs a h =
     (ap not (and-no (countRight n && columnsReach c n) (factsReach (factsIn g) n) (groups-reach n g ∙ lt-leb (groupSize * n) (length g) h)))
 
 pub fill-short : (c : Columns) (n : ℕ) (g : List ℕ) → countRight n ≡ true → columnsReach c n ≡ true → ((k : ℕ) → k < n → entryRight c k ≡ true)
-    → length g < groupSize * n → fillFacts c n g ≡ refused 9 0
+    → length g < groupSize * n → fillFactsCall c n g ≡ refused 9 0
 unfolding firstBadEntry
 fill-short c n g m r right h =
     let e : firstBadEntry c n ≡ n = least-none (λ k. not (entryRight c k)) n (λ k l. ap not (right k l)) in

@@ -5,25 +5,25 @@
 --   answer-same                 any ladder that begins with rung 1
 --   kept-same                   a buffer that stays as it stood where such a ladder refuses
 -- and, law, definition (same: the answer; out-same: the output) and exported call:
---   check-table-same                          checkTable                      check_table
+--   check-table-same                          checkTableCall                      check_table
 --   facts-of-same                             factsOf                         facts_of
---   same-type-same                            sameType                        same_type
+--   same-type-same                            sameTypeCall                        same_type
 --   is-unit-same                              isUnitCall                      is_unit
 --   is-empty-same                             isEmptyCall                     is_empty
---   type-as-sum-same                          typeAsSum                       type_as_sum
---   type-as-product-same                      typeAsProduct                   type_as_product
+--   type-as-sum-same                          typeAsSumCall                       type_as_sum
+--   type-as-product-same                      typeAsProductCall                   type_as_product
 --   pad-left-same                             padLeftCall                     pad_left
 --   pad-right-same                            padRightCall                    pad_right
 --   as-word-same                              asWordCall                      as_word
---   is-buffer8-same                           isBuffer8                       is_buffer8
---   is-ctx8-same                              isCtx8                          is_ctx8
---   as-left-same                              asLeft                          as_left
---   as-right-same                             asRight                         as_right
---   as-product-same                           asProduct                       as_product
+--   is-buffer8-same                           isBuffer8Call                       is_buffer8
+--   is-ctx8-same                              isCtx8Call                          is_ctx8
+--   as-left-same                              asLeftCall                          as_left
+--   as-right-same                             asRightCall                         as_right
+--   as-product-same                           asProductCall                       as_product
 --   equal-same                                equal                           equal
 --   compare-same                              compareCall                     compare
---   compact-len-same                          compactLen                      compact_len
---   padded-len-same                           paddedLen                       padded_len
+--   compact-len-same                          compactLenCall                      compact_len
+--   padded-len-same                           paddedLenCall                       padded_len
 --   unit-same unit-out-same                   unitCall unitOut                unit
 --   left-same left-out-same                   leftCall leftOut                left
 --   right-same right-out-same                 rightCall rightOut              right
@@ -75,13 +75,13 @@ module _ (c : Columns) (n : ℕ) (f g : Facts) (same : SameFacts n f g) where
       → x ≡ kept (ladder (sound one ++ rs) a) before after → y ≡ kept (ladder (sound other ++ rs) a) before after → x ≡ y
   kept-same rs a before after p q = p ∙ ap (λ z. kept z before after) (answers-same c n f g same rs a) ∙ sym q
 
-  pub check-table-same : types.checkTable one ≡ types.checkTable other
+  pub check-table-same : types.checkTableCall one ≡ types.checkTableCall other
   check-table-same = answer-same _ _ refl refl
 
-  pub facts-of-same : (k : ℕ) → types.factsOf one k ≡ types.factsOf other k
+  pub facts-of-same : (k : ℕ) → types.factsOfCall one k ≡ types.factsOfCall other k
   facts-of-same k = answer-same _ _ refl refl
 
-  pub same-type-same : (a b : ℕ) → types.sameType one a b ≡ types.sameType other a b
+  pub same-type-same : (a b : ℕ) → types.sameTypeCall one a b ≡ types.sameTypeCall other a b
   same-type-same a b = answer-same _ _ refl refl
 
   pub is-unit-same : (k : ℕ) → types.isUnitCall one k ≡ types.isUnitCall other k
@@ -90,10 +90,10 @@ module _ (c : Columns) (n : ℕ) (f g : Facts) (same : SameFacts n f g) where
   pub is-empty-same : (k : ℕ) → types.isEmptyCall one k ≡ types.isEmptyCall other k
   is-empty-same k = answer-same _ _ refl refl
 
-  pub type-as-sum-same : (k : ℕ) → types.typeAsSum one k ≡ types.typeAsSum other k
+  pub type-as-sum-same : (k : ℕ) → types.typeAsSumCall one k ≡ types.typeAsSumCall other k
   type-as-sum-same k = answer-same _ _ refl refl
 
-  pub type-as-product-same : (k : ℕ) → types.typeAsProduct one k ≡ types.typeAsProduct other k
+  pub type-as-product-same : (k : ℕ) → types.typeAsProductCall one k ≡ types.typeAsProductCall other k
   type-as-product-same k = answer-same _ _ refl refl
 
   pub pad-left-same : (a b : ℕ) → types.padLeftCall one a b ≡ types.padLeftCall other a b
@@ -105,24 +105,24 @@ module _ (c : Columns) (n : ℕ) (f g : Facts) (same : SameFacts n f g) where
   pub as-word-same : (k : ℕ) → types.asWordCall one k ≡ types.asWordCall other k
   as-word-same k = answer-same _ _ refl refl
 
-  pub is-buffer8-same : (a k : ℕ) → types.isBuffer8 one a k ≡ types.isBuffer8 other a k
+  pub is-buffer8-same : (a k : ℕ) → types.isBuffer8Call one a k ≡ types.isBuffer8Call other a k
   is-buffer8-same a k = answer-same _ _ refl refl
 
-  pub is-ctx8-same : (k : ℕ) → types.isCtx8 one k ≡ types.isCtx8 other k
+  pub is-ctx8-same : (k : ℕ) → types.isCtx8Call one k ≡ types.isCtx8Call other k
   is-ctx8-same k = answer-same _ _ refl refl
 
-  pub as-left-same : (r : Record) → records.asLeft one r ≡ records.asLeft other r
+  pub as-left-same : (r : Record) → records.asLeftCall one r ≡ records.asLeftCall other r
   unfolding recordBits
   as-left-same r = answer-same _ _ refl refl
 
-  pub as-right-same : (r : Record) → records.asRight one r ≡ records.asRight other r
+  pub as-right-same : (r : Record) → records.asRightCall one r ≡ records.asRightCall other r
   unfolding recordBits
   as-right-same r = answer-same _ _ refl refl
 
-  pub as-product-same : (r : Record) → records.asProduct one r ≡ records.asProduct other r
+  pub as-product-same : (r : Record) → records.asProductCall one r ≡ records.asProductCall other r
   as-product-same r = answer-same _ _ refl refl
 
-  pub equal-same : (a b : Record) → records.equal one a b ≡ records.equal other a b
+  pub equal-same : (a b : Record) → records.equalCall one a b ≡ records.equalCall other a b
   unfolding recordBits
   equal-same a b = answer-same _ _ refl refl
 
@@ -130,11 +130,11 @@ module _ (c : Columns) (n : ℕ) (f g : Facts) (same : SameFacts n f g) where
   unfolding recordBits
   compare-same a b = answer-same _ _ refl refl
 
-  pub compact-len-same : (r : Record) → records.compactLen one r ≡ records.compactLen other r
+  pub compact-len-same : (r : Record) → records.compactLenCall one r ≡ records.compactLenCall other r
   unfolding recordBits
   compact-len-same r = answer-same _ _ refl refl
 
-  pub padded-len-same : (r : Record) → records.paddedLen one r ≡ records.paddedLen other r
+  pub padded-len-same : (r : Record) → records.paddedLenCall one r ≡ records.paddedLenCall other r
   padded-len-same r = answer-same _ _ refl refl
 
   pub unit-same : (result : ℕ) (out : List ℕ) → records.unitCall one result out ≡ records.unitCall other result out

@@ -26,7 +26,7 @@ use Rattle.meaning.specs.Groups.{groupSize}
 use Rattle.meaning.specs.Tables.{Columns, Facts, factsIn, tyAt, classOf, digit, countRight, columnsReach, factsReach, groupsReach, firstBadEntry}
 use Rattle.meaning.specs.Files.{Reading, faulty, found, andThen, groups, Entry, entryFrom, entriesFrom, ended, tableIn, columnsOf}
 use Rattle.meaning.specs.Ladder.{Answer, refused, accepted, rung, ladder, kept}
-use Rattle.meaning.specs.TypeCalls.{groupsWritten, fillFacts, fillFactsOut, entriesIn, entriesWritten, columnsKept, fileRung, readTable, readTableColumns, readTableGroups}
+use Rattle.meaning.specs.TypeCalls.{groupsWritten, fillFactsCall, fillFactsOut, entriesIn, entriesWritten, columnsKept, fileRung, readTableCall, readTableColumnsOut, readTableGroupsOut}
 use Rattle.meaning.specs.OldLayout.{filled, factsWritten, factsKept, fillColumns, fillColumnsOut, readColumns, readColumnsEntries, readColumnsFacts}
 use Rattle.meaning.proofs.Tests.{and-left, and-right}
 use Rattle.meaning.proofs.Ladders.{ladder-clear, kept-refused}
@@ -78,23 +78,23 @@ fill-few c n f v e =
     leb-true n 1024 (and-right (leb 1 n) (leb n 1024) (and-left (countRight n) (columnsReach c n) r))
 
 module _ (c : Columns) (n : ℕ) (f : Facts) (g : List ℕ) where
-  pub fill-same : factsReach f n ≡ groupsReach g n → fillColumns c n f ≡ fillFacts c n g
+  pub fill-same : factsReach f n ≡ groupsReach g n → fillColumns c n f ≡ fillFactsCall c n g
   fill-same room =
       ap (λ (b : Bool). ladder (rung (not (countRight n && columnsReach c n)) 1 0 ∷ rung (ltb (firstBadEntry c n) n) 1 (firstBadEntry c n) ∷ rung (not b) 9 0 ∷ []) tt) room
 
   pub fill-out-same : factsReach f n ≡ groupsReach g n → (v : Unit {0}) → fillColumns c n f ≡ accepted v
       → SameFacts n (fillColumnsOut c n f) (factsIn (fillFactsOut c n g))
   fill-out-same room v e =
-      after-same n (fillColumns c n f) (fillFacts c n g) (accepted v) f (factsWritten c n f) g (groupsWritten c n g) (fill-same room) e
+      after-same n (fillColumns c n f) (fillFactsCall c n g) (accepted v) f (factsWritten c n f) g (groupsWritten c n g) (fill-same room) e
       (filled-same c n f g (fill-few c n f v e))
 
   pub fill-refused-kept : (m q p : ℕ) → factsReach f n ≡ groupsReach g n → fillColumns c n f ≡ refused q p → SameFacts m f (factsIn g)
       → SameFacts m (fillColumnsOut c n f) (factsIn (fillFactsOut c n g))
   fill-refused-kept m q p room e s =
-      after-same m (fillColumns c n f) (fillFacts c n g) (refused q p) f (factsWritten c n f) g (groupsWritten c n g) (fill-same room) e s
+      after-same m (fillColumns c n f) (fillFactsCall c n g) (refused q p) f (factsWritten c n f) g (groupsWritten c n g) (fill-same room) e s
 
-pub fill-refused-stays : (c : Columns) (n : ℕ) (g : List ℕ) (q p : ℕ) → fillFacts c n g ≡ refused q p → fillFactsOut c n g ≡ g
-fill-refused-stays c n g q p = kept-refused (fillFacts c n g) q p g (groupsWritten c n g)
+pub fill-refused-stays : (c : Columns) (n : ℕ) (g : List ℕ) (q p : ℕ) → fillFactsCall c n g ≡ refused q p → fillFactsOut c n g ≡ g
+fill-refused-stays c n g q p = kept-refused (fillFactsCall c n g) q p g (groupsWritten c n g)
 
 -- The nodes of a file, none where it is faulty.
 abbrev pub nodesIn : List ℕ → List Entry
@@ -145,29 +145,29 @@ file-count file = first (groups file 0)
     first (found n next) = ranged n next (countRight n) refl
 
 module _ (file : List ℕ) (c : Columns) (f : Facts) (g : List ℕ) where
-  pub read-same : factsReach f (length (nodesIn file)) ≡ groupsReach g (length (nodesIn file)) → readColumns file c f ≡ readTable file c g
+  pub read-same : factsReach f (length (nodesIn file)) ≡ groupsReach g (length (nodesIn file)) → readColumns file c f ≡ readTableCall file c g
   read-same room =
       ap (λ (b : Bool). ladder (fileRung (tableIn file) ∷ rung (not (columnsReach c (length (nodesIn file)) && b)) 9 0 ∷ []) (length (nodesIn file))) room
 
   pub read-columns-same : factsReach f (length (nodesIn file)) ≡ groupsReach g (length (nodesIn file))
-      → readColumnsEntries file c f ≡ readTableColumns file c g
+      → readColumnsEntries file c f ≡ readTableColumnsOut file c g
   read-columns-same room = ap (λ x. columnsKept x c (entriesWritten (nodesIn file) c)) (read-same room)
 
   pub read-out-same : factsReach f (length (nodesIn file)) ≡ groupsReach g (length (nodesIn file)) → (v : ℕ) → readColumns file c f ≡ accepted v
-      → SameFacts (length (nodesIn file)) (readColumnsFacts file c f) (factsIn (readTableGroups file c g))
+      → SameFacts (length (nodesIn file)) (readColumnsFacts file c f) (factsIn (readTableGroupsOut file c g))
   read-out-same room v e =
       let n = length (nodesIn file) in
       let d = columnsOf (nodesIn file) in
-      after-same n (readColumns file c f) (readTable file c g) (accepted v) f (factsWritten d n f) g (groupsWritten d n g) (read-same room) e
+      after-same n (readColumns file c f) (readTableCall file c g) (accepted v) f (factsWritten d n f) g (groupsWritten d n g) (read-same room) e
       (filled-same d n f g (file-count file))
 
   pub read-refused-kept : (m q p : ℕ) → factsReach f (length (nodesIn file)) ≡ groupsReach g (length (nodesIn file)) → readColumns file c f ≡ refused q p
-      → SameFacts m f (factsIn g) → SameFacts m (readColumnsFacts file c f) (factsIn (readTableGroups file c g))
+      → SameFacts m f (factsIn g) → SameFacts m (readColumnsFacts file c f) (factsIn (readTableGroupsOut file c g))
   read-refused-kept m q p room e s =
       let n = length (nodesIn file) in
       let d = columnsOf (nodesIn file) in
-      after-same m (readColumns file c f) (readTable file c g) (refused q p) f (factsWritten d n f) g (groupsWritten d n g) (read-same room) e s
+      after-same m (readColumns file c f) (readTableCall file c g) (refused q p) f (factsWritten d n f) g (groupsWritten d n g) (read-same room) e s
 
-pub read-refused-stays : (file : List ℕ) (c : Columns) (g : List ℕ) (q p : ℕ) → readTable file c g ≡ refused q p → readTableGroups file c g ≡ g
+pub read-refused-stays : (file : List ℕ) (c : Columns) (g : List ℕ) (q p : ℕ) → readTableCall file c g ≡ refused q p → readTableGroupsOut file c g ≡ g
 read-refused-stays file c g q p =
-    kept-refused (readTable file c g) q p g (groupsWritten (columnsOf (nodesIn file)) (length (nodesIn file)) g)
+    kept-refused (readTableCall file c g) q p g (groupsWritten (columnsOf (nodesIn file)) (length (nodesIn file)) g)

@@ -14,7 +14,7 @@ use Rattle.meaning.specs.Groups.{groupSize}
 use Rattle.meaning.specs.Tables.{Columns, factsIn, factsAt, columnsReach}
 use Rattle.meaning.specs.Files.{Reading, faulty, found, Entry, tableIn, columnsOf}
 use Rattle.meaning.specs.Ladder.{Answer, refused, accepted, rung, ladder}
-use Rattle.meaning.specs.TypeCalls.{groupsWritten, fileRung, entriesIn, entriesWritten, readTable, readTableColumns, readTableGroups}
+use Rattle.meaning.specs.TypeCalls.{groupsWritten, fileRung, entriesIn, entriesWritten, readTableCall, readTableColumnsOut, readTableGroupsOut}
 use Rattle.meaning.proofs.GroupLaws.{written-width, written-size, written-padded, written-class}
 use Rattle.meaning.proofs.Ladders.{accepted-refused, numberOf, placeOf, kept-accepted}
 use Rattle.lines.specs.Report.{nodeLine, lineIn, factsLine, headLine, refusalLine, groupsText, tableText, readingText, fileText}
@@ -71,18 +71,18 @@ when-refused (found es at) c gs p e = absurd (by-test (not (columnsReach c (leng
     by-test false q = accepted-refused (length es) 1 p q
 
 -- After a `read_table` that was accepted, the kinds and the groups have the report of the file.
-pub accepted-text : (file : List ℕ) (c : Columns) (gs : List ℕ) (n : ℕ) → n ≤ 1024 → readTable file c gs ≡ accepted n
-    → groupsText (readTableColumns file c gs .kinds) (readTableGroups file c gs) n ≡ fileText file
+pub accepted-text : (file : List ℕ) (c : Columns) (gs : List ℕ) (n : ℕ) → n ≤ 1024 → readTableCall file c gs ≡ accepted n
+    → groupsText (readTableColumnsOut file c gs .kinds) (readTableGroupsOut file c gs) n ≡ fileText file
 unfolding answer fileText
 accepted-text file c gs n few e =
     let es = entriesIn (tableIn file) in
     let found = when-accepted (tableIn file) c gs n e in
-    (λ i. groupsText (kept-accepted (readTable file c gs) n (c .kinds) (entriesWritten es c .kinds) e i)
-    (kept-accepted (readTable file c gs) n gs (groupsWritten (columnsOf es) (length es) gs) e i) (sym (found .0) i))
+    (λ i. groupsText (kept-accepted (readTableCall file c gs) n (c .kinds) (entriesWritten es c .kinds) e i)
+    (kept-accepted (readTableCall file c gs) n gs (groupsWritten (columnsOf es) (length es) gs) e i) (sym (found .0) i))
     ∙ nodes-text es c gs (omega (arith, found .0))
     ∙ sym (found .1)
 
 -- Where `read_table` refuses the file, the line of the refusal is the report of the file.
-pub refused-text : (file : List ℕ) (c : Columns) (gs : List ℕ) (p : ℕ) → readTable file c gs ≡ refused 1 p → refusalLine 1 p ≡ fileText file
+pub refused-text : (file : List ℕ) (c : Columns) (gs : List ℕ) (p : ℕ) → readTableCall file c gs ≡ refused 1 p → refusalLine 1 p ≡ fileText file
 unfolding answer fileText
 refused-text file c gs p e = when-refused (tableIn file) c gs p e

@@ -16,8 +16,8 @@ use Rattle.meaning.specs.Codecs.{decodeCompact, decodePadded}
 use Rattle.meaning.specs.Words.{word, wordWidths, isWord, asWord, exponent, buffer, bufferBits, ctx8, ctx8Bits}
 use Rattle.meaning.specs.Cuts.{cut}
 use Rattle.meaning.specs.Ladder.{refused, accepted, ladder, record-of, stream-of, recordBits, restOf}
-use Rattle.meaning.specs.TypeCalls.{groupOf, groupsOf, checkTable, fillFacts, fillFactsOut, readTable, readTableGroups, asWordCall, wordWidth, bufferWidth}
-use Rattle.meaning.specs.RecordCalls.{asLeft, asRight, compareCall, paddedLen, unitCall, leftOut, noneCall, someOut, productCall, productOut}
+use Rattle.meaning.specs.TypeCalls.{groupOf, groupsOf, checkTableCall, fillFactsCall, fillFactsOut, readTableCall, readTableGroupsOut, asWordCall, wordWidthCall, bufferWidthCall}
+use Rattle.meaning.specs.RecordCalls.{asLeftCall, asRightCall, compareCall, paddedLenCall, unitCall, leftOut, noneCall, someOut, productCall, productOut}
 use Rattle.meaning.specs.CodecCalls.{fromCompactCall, fromPaddedCall, fromPaddedOut, toPaddedOut}
 use Rattle.meaning.specs.WordCalls.{numberCall, numberOut, bytesCall, bytesOut, arrayCall, joinCall, joinOut, wordReadCall, bufferCall, bufferOut, ctx8Call}
 use Rattle.meaning.specs.CutCalls.{pruneCall, pruneOut}
@@ -27,27 +27,27 @@ use Rattle.meaning.proofs.Sampling.{tableS, tableB, Said, done, node-fa
 -- Faults of a file, each with its place; a sound file with no room answers 9.
 pub fileEdges : List Sample
 fileEdges =
-    sample (count (readTable ([]) (columns [] [] []) [])) (count (refused 1 0))
-    ∷ sample (count (readTable (0x80 ∷ []) (columns [] [] []) [])) (count (refused 1 0))
-    ∷ sample (count (readTable (0x80 ∷ 0x00 ∷ []) (columns [] [] []) [])) (count (refused 1 0))
-    ∷ sample (count (readTable (0x81 ∷ 0x00 ∷ []) (columns [] [] []) [])) (count (refused 1 0))
-    ∷ sample (count (readTable (0x81 ∷ 0x80 ∷ 0x01 ∷ []) (columns [] [] []) [])) (count (refused 1 0))
-    ∷ sample (count (readTable (0x00 ∷ []) (columns [] [] []) [])) (count (refused 1 0))
-    ∷ sample (count (readTable (0x80 ∷ 0x08 ∷ []) (columns [] [] []) [])) (count (refused 1 2))
-    ∷ sample (count (readTable (0x81 ∷ 0x08 ∷ []) (columns [] [] []) [])) (count (refused 1 0))
-    ∷ sample (count (readTable (0x01 ∷ []) (columns [] [] []) [])) (count (refused 1 1))
-    ∷ sample (count (readTable (0x01 ∷ 0x00 ∷ 0x00 ∷ []) (columns [] [] []) [])) (count (refused 1 2))
-    ∷ sample (count (readTable (0x01 ∷ 0x03 ∷ []) (columns [] [] []) [])) (count (refused 1 1))
-    ∷ sample (count (readTable (0x01 ∷ 0x01 ∷ []) (columns [] [] []) [])) (count (refused 1 2))
-    ∷ sample (count (readTable (0x01 ∷ 0x01 ∷ 0x00 ∷ []) (columns [] [] []) [])) (count (refused 1 2))
-    ∷ sample (count (readTable (0x02 ∷ 0x00 ∷ 0x01 ∷ 0x00 ∷ []) (columns [] [] []) [])) (count (refused 1 4))
-    ∷ sample (count (readTable (0x02 ∷ 0x00 ∷ 0x01 ∷ 0x00 ∷ 0x80 ∷ []) (columns [] [] []) [])) (count (refused 1 4))
-    ∷ sample (count (readTable (0x02 ∷ 0x00 ∷ 0x01 ∷ 0x00 ∷ 0x01 ∷ []) (columns [] [] []) [])) (count (refused 1 4))
-    ∷ sample (count (readTable (0x02 ∷ 0x00 ∷ 0x01 ∷ 0x00 ∷ 0x00 ∷ 0xFF ∷ 0xFF ∷ []) (columns [] [] []) [])) (count (refused 1 5))
-    ∷ sample (count (readTable (0x01 ∷ 0x80 ∷ 0x00 ∷ []) (columns [] [] []) [])) (count (refused 1 1))
-    ∷ sample (count (readTable (0x01 ∷ 0xFF ∷ 0x7F ∷ []) (columns [] [] []) [])) (count (refused 1 1))
-    ∷ sample (count (readTable (0x02 ∷ 0x00 ∷ 0x02 ∷ 0x80 ∷ 0x80 ∷ []) (columns [] [] []) [])) (count (refused 1 3))
-    ∷ sample (count (readTable (0x01 ∷ 0x00 ∷ []) (columns [] [] []) [])) (count (refused 9 0))
+    sample (count (readTableCall ([]) (columns [] [] []) [])) (count (refused 1 0))
+    ∷ sample (count (readTableCall (0x80 ∷ []) (columns [] [] []) [])) (count (refused 1 0))
+    ∷ sample (count (readTableCall (0x80 ∷ 0x00 ∷ []) (columns [] [] []) [])) (count (refused 1 0))
+    ∷ sample (count (readTableCall (0x81 ∷ 0x00 ∷ []) (columns [] [] []) [])) (count (refused 1 0))
+    ∷ sample (count (readTableCall (0x81 ∷ 0x80 ∷ 0x01 ∷ []) (columns [] [] []) [])) (count (refused 1 0))
+    ∷ sample (count (readTableCall (0x00 ∷ []) (columns [] [] []) [])) (count (refused 1 0))
+    ∷ sample (count (readTableCall (0x80 ∷ 0x08 ∷ []) (columns [] [] []) [])) (count (refused 1 2))
+    ∷ sample (count (readTableCall (0x81 ∷ 0x08 ∷ []) (columns [] [] []) [])) (count (refused 1 0))
+    ∷ sample (count (readTableCall (0x01 ∷ []) (columns [] [] []) [])) (count (refused 1 1))
+    ∷ sample (count (readTableCall (0x01 ∷ 0x00 ∷ 0x00 ∷ []) (columns [] [] []) [])) (count (refused 1 2))
+    ∷ sample (count (readTableCall (0x01 ∷ 0x03 ∷ []) (columns [] [] []) [])) (count (refused 1 1))
+    ∷ sample (count (readTableCall (0x01 ∷ 0x01 ∷ []) (columns [] [] []) [])) (count (refused 1 2))
+    ∷ sample (count (readTableCall (0x01 ∷ 0x01 ∷ 0x00 ∷ []) (columns [] [] []) [])) (count (refused 1 2))
+    ∷ sample (count (readTableCall (0x02 ∷ 0x00 ∷ 0x01 ∷ 0x00 ∷ []) (columns [] [] []) [])) (count (refused 1 4))
+    ∷ sample (count (readTableCall (0x02 ∷ 0x00 ∷ 0x01 ∷ 0x00 ∷ 0x80 ∷ []) (columns [] [] []) [])) (count (refused 1 4))
+    ∷ sample (count (readTableCall (0x02 ∷ 0x00 ∷ 0x01 ∷ 0x00 ∷ 0x01 ∷ []) (columns [] [] []) [])) (count (refused 1 4))
+    ∷ sample (count (readTableCall (0x02 ∷ 0x00 ∷ 0x01 ∷ 0x00 ∷ 0x00 ∷ 0xFF ∷ 0xFF ∷ []) (columns [] [] []) [])) (count (refused 1 5))
+    ∷ sample (count (readTableCall (0x01 ∷ 0x80 ∷ 0x00 ∷ []) (columns [] [] []) [])) (count (refused 1 1))
+    ∷ sample (count (readTableCall (0x01 ∷ 0xFF ∷ 0x7F ∷ []) (columns [] [] []) [])) (count (refused 1 1))
+    ∷ sample (count (readTableCall (0x02 ∷ 0x00 ∷ 0x02 ∷ 0x80 ∷ 0x80 ∷ []) (columns [] [] []) [])) (count (refused 1 3))
+    ∷ sample (count (readTableCall (0x01 ∷ 0x00 ∷ []) (columns [] [] []) [])) (count (refused 9 0))
     ∷ []
 
 pub fileEdges-hold : map defined fileEdges ≡ map paper fileEdges
@@ -68,41 +68,41 @@ two last n = table (0 ∷ 1 ∷ []) (0 ∷ 0 ∷ []) (0 ∷ 0 ∷ []) (unitGroup
 -- Counts, columns, entries and groups that are wrong, each with its place; bytes past the count's groups, which nobody judges.
 pub tableEdges : List Sample
 tableEdges =
-    sample (done (checkTable (two (groupWith 1 0 3 0 0 1 0) 2))) (done (accepted tt))
-    ∷ sample (done (checkTable (two (groupWith 1 0 3 0 0 1 0) 1))) (done (accepted tt))
-    ∷ sample (done (checkTable (two (groupWith 1 0 3 0 0 1 0) 0))) (done (refused 1 0))
-    ∷ sample (done (checkTable (two (groupWith 1 0 3 0 0 1 0) 3))) (done (refused 1 0))
-    ∷ sample (done (checkTable (two (groupWith 1 0 3 0 0 1 0) (2 ^ 64 - 1)))) (done (refused 1 0))
-    ∷ sample (done (checkTable (table (0 ∷ 3 ∷ []) (0 ∷ 0 ∷ []) (0 ∷ 0 ∷ []) (unitGroup ++ groupWith 1 0 3 0 0 1 0) 2))) (done (refused 1 1))
-    ∷ sample (done (checkTable (table (0 ∷ 1 ∷ []) (1 ∷ 0 ∷ []) (0 ∷ 0 ∷ []) (unitGroup ++ groupWith 1 0 3 0 0 1 0) 2))) (done (refused 1 0))
-    ∷ sample (done (checkTable (table (0 ∷ 1 ∷ []) (0 ∷ 0 ∷ []) (1 ∷ 0 ∷ []) (unitGroup ++ groupWith 1 0 3 0 0 1 0) 2))) (done (refused 1 0))
-    ∷ sample (done (checkTable (table (0 ∷ 1 ∷ []) (0 ∷ 0 ∷ []) (0 ∷ 1 ∷ []) (unitGroup ++ groupWith 1 0 3 0 0 1 0) 2))) (done (refused 1 1))
-    ∷ sample (done (checkTable (two (groupWith 2 0 3 0 0 1 0) 2))) (done (refused 1 1))
-    ∷ sample (done (checkTable (two (groupWith 1 1 3 0 0 1 0) 2))) (done (refused 1 1))
-    ∷ sample (done (checkTable (two (groupWith 1 0 9 0 0 1 0) 2))) (done (refused 1 1))
-    ∷ sample (done (checkTable (two (groupWith 1 0 3 1 0 1 0) 2))) (done (refused 1 1))
-    ∷ sample (done (checkTable (two (groupWith 1 0 3 0 2 1 0) 2))) (done (refused 1 1))
-    ∷ sample (done (checkTable (two (groupWith 1 0 3 0 0 0 0) 2))) (done (refused 1 1))
-    ∷ sample (done (checkTable (two (groupWith 1 0 3 0 0 1 1) 2))) (done (refused 1 1))
-    ∷ sample (done (checkTable (table (0 ∷ 1 ∷ []) (0 ∷ 0 ∷ []) (0 ∷ 0 ∷ []) (groupWith 0 0 2 0 0 0 0 ++ groupWith 1 0 9 0 0 1 0) 2))) (done (refused 1 0))
-    ∷ sample (done (checkTable (two [] 2))) (done (refused 1 0))
-    ∷ sample (done (checkTable (two (1 ∷ 0 ∷ 0 ∷ 0 ∷ 0 ∷ 0 ∷ 0 ∷ 0 ∷ 3 ∷ 0 ∷ 0 ∷ 0 ∷ 0 ∷ 0 ∷ 0 ∷ 0 ∷ 0 ∷ 1 ∷ []) 2))) (done (refused 1 0))
-    ∷ sample (done (checkTable (two (9 ∷ 9 ∷ []) 1))) (done (accepted tt))
-    ∷ sample (done (checkTable (two (groupWith 1 0 3 0 0 1 0 ++ (9 ∷ [])) 2))) (done (accepted tt))
-    ∷ sample (done (checkTable (columnsTable (0 ∷ 1 ∷ []) (0 ∷ 0 ∷ []) (0 ∷ 0 ∷ []) (0 ∷ 1 ∷ []) (1 ∷ 3 ∷ []) (0 ∷ 0 ∷ []) (0 ∷ 1 ∷ []) 2))) (done (accepted tt))
-    ∷ sample (done (checkTable (columnsTable (0 ∷ 1 ∷ []) (0 ∷ 0 ∷ []) (0 ∷ 0 ∷ []) (0 ∷ []) (1 ∷ 3 ∷ []) (0 ∷ 0 ∷ []) (0 ∷ 1 ∷ []) 2))) (done (refused 1 0))
+    sample (done (checkTableCall (two (groupWith 1 0 3 0 0 1 0) 2))) (done (accepted tt))
+    ∷ sample (done (checkTableCall (two (groupWith 1 0 3 0 0 1 0) 1))) (done (accepted tt))
+    ∷ sample (done (checkTableCall (two (groupWith 1 0 3 0 0 1 0) 0))) (done (refused 1 0))
+    ∷ sample (done (checkTableCall (two (groupWith 1 0 3 0 0 1 0) 3))) (done (refused 1 0))
+    ∷ sample (done (checkTableCall (two (groupWith 1 0 3 0 0 1 0) (2 ^ 64 - 1)))) (done (refused 1 0))
+    ∷ sample (done (checkTableCall (table (0 ∷ 3 ∷ []) (0 ∷ 0 ∷ []) (0 ∷ 0 ∷ []) (unitGroup ++ groupWith 1 0 3 0 0 1 0) 2))) (done (refused 1 1))
+    ∷ sample (done (checkTableCall (table (0 ∷ 1 ∷ []) (1 ∷ 0 ∷ []) (0 ∷ 0 ∷ []) (unitGroup ++ groupWith 1 0 3 0 0 1 0) 2))) (done (refused 1 0))
+    ∷ sample (done (checkTableCall (table (0 ∷ 1 ∷ []) (0 ∷ 0 ∷ []) (1 ∷ 0 ∷ []) (unitGroup ++ groupWith 1 0 3 0 0 1 0) 2))) (done (refused 1 0))
+    ∷ sample (done (checkTableCall (table (0 ∷ 1 ∷ []) (0 ∷ 0 ∷ []) (0 ∷ 1 ∷ []) (unitGroup ++ groupWith 1 0 3 0 0 1 0) 2))) (done (refused 1 1))
+    ∷ sample (done (checkTableCall (two (groupWith 2 0 3 0 0 1 0) 2))) (done (refused 1 1))
+    ∷ sample (done (checkTableCall (two (groupWith 1 1 3 0 0 1 0) 2))) (done (refused 1 1))
+    ∷ sample (done (checkTableCall (two (groupWith 1 0 9 0 0 1 0) 2))) (done (refused 1 1))
+    ∷ sample (done (checkTableCall (two (groupWith 1 0 3 1 0 1 0) 2))) (done (refused 1 1))
+    ∷ sample (done (checkTableCall (two (groupWith 1 0 3 0 2 1 0) 2))) (done (refused 1 1))
+    ∷ sample (done (checkTableCall (two (groupWith 1 0 3 0 0 0 0) 2))) (done (refused 1 1))
+    ∷ sample (done (checkTableCall (two (groupWith 1 0 3 0 0 1 1) 2))) (done (refused 1 1))
+    ∷ sample (done (checkTableCall (table (0 ∷ 1 ∷ []) (0 ∷ 0 ∷ []) (0 ∷ 0 ∷ []) (groupWith 0 0 2 0 0 0 0 ++ groupWith 1 0 9 0 0 1 0) 2))) (done (refused 1 0))
+    ∷ sample (done (checkTableCall (two [] 2))) (done (refused 1 0))
+    ∷ sample (done (checkTableCall (two (1 ∷ 0 ∷ 0 ∷ 0 ∷ 0 ∷ 0 ∷ 0 ∷ 0 ∷ 3 ∷ 0 ∷ 0 ∷ 0 ∷ 0 ∷ 0 ∷ 0 ∷ 0 ∷ 0 ∷ 1 ∷ []) 2))) (done (refused 1 0))
+    ∷ sample (done (checkTableCall (two (9 ∷ 9 ∷ []) 1))) (done (accepted tt))
+    ∷ sample (done (checkTableCall (two (groupWith 1 0 3 0 0 1 0 ++ (9 ∷ [])) 2))) (done (accepted tt))
+    ∷ sample (done (checkTableCall (columnsTable (0 ∷ 1 ∷ []) (0 ∷ 0 ∷ []) (0 ∷ 0 ∷ []) (0 ∷ 1 ∷ []) (1 ∷ 3 ∷ []) (0 ∷ 0 ∷ []) (0 ∷ 1 ∷ []) 2))) (done (accepted tt))
+    ∷ sample (done (checkTableCall (columnsTable (0 ∷ 1 ∷ []) (0 ∷ 0 ∷ []) (0 ∷ 0 ∷ []) (0 ∷ []) (1 ∷ 3 ∷ []) (0 ∷ 0 ∷ []) (0 ∷ 1 ∷ []) 2))) (done (refused 1 0))
     ∷ sample (done (fillColumns (columns (0 ∷ []) (0 ∷ []) (0 ∷ [])) 1 (facts [] [] [] []))) (done (refused 9 0))
-    ∷ sample (done (fillFacts (columns (0 ∷ []) (0 ∷ []) (0 ∷ [])) 1 [])) (done (refused 9 0))
-    ∷ sample (done (fillFacts (columns (0 ∷ []) (0 ∷ []) (0 ∷ [])) 1 (drop 1 unitGroup))) (done (refused 9 0))
-    ∷ sample (done (fillFacts (columns (0 ∷ []) (5 ∷ []) (0 ∷ [])) 1 [])) (done (refused 1 0))
+    ∷ sample (done (fillFactsCall (columns (0 ∷ []) (0 ∷ []) (0 ∷ [])) 1 [])) (done (refused 9 0))
+    ∷ sample (done (fillFactsCall (columns (0 ∷ []) (0 ∷ []) (0 ∷ [])) 1 (drop 1 unitGroup))) (done (refused 9 0))
+    ∷ sample (done (fillFactsCall (columns (0 ∷ []) (5 ∷ []) (0 ∷ [])) 1 [])) (done (refused 1 0))
     ∷ sample (out (fillFactsOut (columns (0 ∷ 1 ∷ []) (0 ∷ 0 ∷ []) (0 ∷ 0 ∷ [])) 2 (replicate 40 7))) (out (unitGroup ++ (groupWith 1 0 3 0 0 1 0 ++ (7 ∷ 7 ∷ []))))
     ∷ sample (out (fillFactsOut (columns (0 ∷ 1 ∷ []) (0 ∷ 0 ∷ []) (0 ∷ 0 ∷ [])) 2 (7 ∷ 7 ∷ []))) (out (7 ∷ 7 ∷ []))
-    ∷ sample (count (readTable (0x01 ∷ 0x03 ∷ []) (columns (9 ∷ []) (9 ∷ []) (9 ∷ [])) (replicate 20 7))) (count (refused 1 1))
-    ∷ sample (out (readTableGroups (0x01 ∷ 0x03 ∷ []) (columns (9 ∷ []) (9 ∷ []) (9 ∷ [])) (replicate 20 7))) (out (replicate 20 7))
-    ∷ sample (count (readTable (0x01 ∷ 0x00 ∷ []) (columns (9 ∷ []) (9 ∷ []) (9 ∷ [])) (replicate 18 7))) (count (refused 9 0))
-    ∷ sample (out (readTableGroups (0x01 ∷ 0x00 ∷ []) (columns (9 ∷ []) (9 ∷ []) (9 ∷ [])) (replicate 18 7))) (out (replicate 18 7))
-    ∷ sample (count (readTable (0x02 ∷ 0x00 ∷ 0x01 ∷ 0x00 ∷ 0x00 ∷ []) (columns (9 ∷ 9 ∷ []) (9 ∷ 9 ∷ []) (9 ∷ 9 ∷ [])) (replicate 40 7))) (count (accepted 2))
-    ∷ sample (out (readTableGroups (0x02 ∷ 0x00 ∷ 0x01 ∷ 0x00 ∷ 0x00 ∷ []) (columns (9 ∷ 9 ∷ []) (9 ∷ 9 ∷ []) (9 ∷ 9 ∷ [])) (replicate 40 7))) (out (unitGroup ++ (groupWith 1 0 3 0 0 1 0 ++ (7 ∷ 7 ∷ []))))
+    ∷ sample (count (readTableCall (0x01 ∷ 0x03 ∷ []) (columns (9 ∷ []) (9 ∷ []) (9 ∷ [])) (replicate 20 7))) (count (refused 1 1))
+    ∷ sample (out (readTableGroupsOut (0x01 ∷ 0x03 ∷ []) (columns (9 ∷ []) (9 ∷ []) (9 ∷ [])) (replicate 20 7))) (out (replicate 20 7))
+    ∷ sample (count (readTableCall (0x01 ∷ 0x00 ∷ []) (columns (9 ∷ []) (9 ∷ []) (9 ∷ [])) (replicate 18 7))) (count (refused 9 0))
+    ∷ sample (out (readTableGroupsOut (0x01 ∷ 0x00 ∷ []) (columns (9 ∷ []) (9 ∷ []) (9 ∷ [])) (replicate 18 7))) (out (replicate 18 7))
+    ∷ sample (count (readTableCall (0x02 ∷ 0x00 ∷ 0x01 ∷ 0x00 ∷ 0x00 ∷ []) (columns (9 ∷ 9 ∷ []) (9 ∷ 9 ∷ []) (9 ∷ 9 ∷ [])) (replicate 40 7))) (count (accepted 2))
+    ∷ sample (out (readTableGroupsOut (0x02 ∷ 0x00 ∷ 0x01 ∷ 0x00 ∷ 0x00 ∷ []) (columns (9 ∷ 9 ∷ []) (9 ∷ 9 ∷ []) (9 ∷ 9 ∷ [])) (replicate 40 7))) (out (unitGroup ++ (groupWith 1 0 3 0 0 1 0 ++ (7 ∷ 7 ∷ []))))
     ∷ sample (number (low 8 (1 ∷ 2 ∷ 3 ∷ 4 ∷ 5 ∷ 6 ∷ 7 ∷ 8 ∷ []))) (number 0x0807060504030201)
     ∷ sample (out (lowBytes 8 0x0807060504030201)) (out (1 ∷ 2 ∷ 3 ∷ 4 ∷ 5 ∷ 6 ∷ 7 ∷ 8 ∷ []))
     ∷ []
@@ -114,7 +114,7 @@ tableEdges-hold = refl
 -- Unit and unit + unit, with byte i of the second group greater by one: whichever byte it is, it is told, at that node.
 pub byteEdges : List Sample
 byteEdges =
-    map (λ i. sample (done (checkTable (two (set (groupWith 1 0 3 0 0 1 0) i (getD (groupWith 1 0 3 0 0 1 0) i 0 + 1)) 2))) (done (refused 1 1))) (from 0 19)
+    map (λ i. sample (done (checkTableCall (two (set (groupWith 1 0 3 0 0 1 0) i (getD (groupWith 1 0 3 0 0 1 0) i 0 + 1)) 2))) (done (refused 1 1))) (from 0 19)
 
 pub byteEdges-hold : map defined byteEdges ≡ map paper byteEdges
 unfolding byteEdges unitGroup groupWith defined paper low factIn least from same width size padded tyTo tyAt classOf firstBad entryRight factsRight ladder
@@ -123,19 +123,19 @@ byteEdges-hold = refl
 -- Bounds, views, order, constructors, both codecs and cuts at their edges.
 pub recordEdges : List Sample
 recordEdges =
-    sample (count (paddedLen tableS (record-of [] 0 0))) (count (accepted 0))
-    ∷ sample (count (paddedLen tableS (record-of [] 1 0))) (count (refused 5 0))
-    ∷ sample (count (paddedLen tableS (record-of [] (2 ^ 64 - 1) 2))) (count (refused 5 0))
-    ∷ sample (count (paddedLen tableS (record-of (0 ∷ []) 8 2))) (count (accepted 0))
-    ∷ sample (count (paddedLen tableS (record-of (0 ∷ []) 8 1))) (count (refused 5 0))
-    ∷ sample (count (paddedLen tableS (record-of [] 99 10))) (count (refused 2 0))
+    sample (count (paddedLenCall tableS (record-of [] 0 0))) (count (accepted 0))
+    ∷ sample (count (paddedLenCall tableS (record-of [] 1 0))) (count (refused 5 0))
+    ∷ sample (count (paddedLenCall tableS (record-of [] (2 ^ 64 - 1) 2))) (count (refused 5 0))
+    ∷ sample (count (paddedLenCall tableS (record-of (0 ∷ []) 8 2))) (count (accepted 0))
+    ∷ sample (count (paddedLenCall tableS (record-of (0 ∷ []) 8 1))) (count (refused 5 0))
+    ∷ sample (count (paddedLenCall tableS (record-of [] 99 10))) (count (refused 2 0))
     ∷ sample (order (compareCall tableS (one 0x60 4) (one 0x40 4))) (order (accepted Ordering·eq))
     ∷ sample (order (compareCall tableS (one 0x80 4) (one 0x40 4))) (order (accepted Ordering·gt))
     ∷ sample (order (compareCall tableS (one 0x80 6) (one 0x80 1))) (order (accepted Ordering·eq))
     ∷ sample (order (compareCall tableS (one 0x80 3) (one 0x00 8))) (order (accepted Ordering·lt))
-    ∷ sample (place (asRight tableS (one 0x60 5))) (place (refused 7 0))
-    ∷ sample (place (asRight tableS (one 0xC0 3))) (place (accepted (record { offset = 1; node = 1 })))
-    ∷ sample (place (asLeft tableS (one 0x60 4))) (place (refused 7 0))
+    ∷ sample (place (asRightCall tableS (one 0x60 5))) (place (refused 7 0))
+    ∷ sample (place (asRightCall tableS (one 0xC0 3))) (place (accepted (record { offset = 1; node = 1 })))
+    ∷ sample (place (asLeftCall tableS (one 0x60 4))) (place (refused 7 0))
     ∷ sample (out (leftOut tableS (record-of (0x20 ∷ []) 2 1) 5 (0xFF ∷ 0xEE ∷ []))) (out (0x20 ∷ 0xEE ∷ []))
     ∷ sample (count (noneCall tableS 3 [])) (count (refused 9 0))
     ∷ sample (count (noneCall tableS 8 [])) (count (refused 7 0))
@@ -168,12 +168,12 @@ recordEdges-hold = refl
 -- Words, byte arrays, joins, buffers and the hash state at their edges.
 pub wordEdges : List Sample
 wordEdges =
-    sample (count (wordWidth 31)) (count (accepted (2 ^ 31)))
-    ∷ sample (count (wordWidth 32)) (count (refused 6 0))
-    ∷ sample (count (wordWidth (2 ^ 64 - 1))) (count (refused 6 0))
-    ∷ sample (count (bufferWidth 5)) (count (accepted 510))
-    ∷ sample (count (bufferWidth 12)) (count (accepted 65541))
-    ∷ sample (count (bufferWidth 13)) (count (refused 6 0))
+    sample (count (wordWidthCall 31)) (count (accepted (2 ^ 31)))
+    ∷ sample (count (wordWidthCall 32)) (count (refused 6 0))
+    ∷ sample (count (wordWidthCall (2 ^ 64 - 1))) (count (refused 6 0))
+    ∷ sample (count (bufferWidthCall 5)) (count (accepted 510))
+    ∷ sample (count (bufferWidthCall 12)) (count (accepted 65541))
+    ∷ sample (count (bufferWidthCall 13)) (count (refused 6 0))
     ∷ sample (number (bits ctx8)) (number 830)
     ∷ sample (number (exponent 0)) (number 29)
     ∷ sample (number (exponent 1)) (number 0)

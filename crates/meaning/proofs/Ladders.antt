@@ -20,7 +20,7 @@ use Rattle.meaning.specs.Choice.{least}
 use Rattle.meaning.specs.Tables.{Table, countRight, columnsReach, factsReach, reaches, entryRight, factsRight, firstBad}
 use Rattle.meaning.specs.Ladder.{Answer, refused, accepted, Rung, rung, ladder, kept, sound}
 use Rattle.meaning.specs.Checked.{Sound}
-use Rattle.meaning.specs.TypeCalls.{checkTable}
+use Rattle.meaning.specs.TypeCalls.{checkTableCall}
 use Rattle.meaning.proofs.Tests.{and-left, and-right, and-both}
 use Rattle.meaning.proofs.Choices.{least-le, least-before, least-none}
 
@@ -137,7 +137,7 @@ right-shape t s =
 abbrev pub bad : Table → ℕ → Bool
 bad t k = not (entryRight (t .columns) k && factsRight (t .columns) (t .facts) k)
 
-pub accepted-sound : (t : Table) → checkTable t ≡ accepted (tt {0}) → Sound t
+pub accepted-sound : (t : Table) → checkTableCall t ≡ accepted (tt {0}) → Sound t
 unfolding firstBad
 accepted-sound t h =
     let first = ladder-clear (not (shapeRight t)) 1 0 (rung (ltb (firstBad t) (t .count)) 1 (firstBad t) ∷ []) tt tt h in
@@ -175,7 +175,7 @@ sound-shape t s =
       classes-reach = s .classes-reach;
     }
 
-pub sound-accepted : (t : Table) → Sound t → checkTable t ≡ accepted (tt {0})
+pub sound-accepted : (t : Table) → Sound t → checkTableCall t ≡ accepted (tt {0})
 unfolding firstBad ladder
 sound-accepted t s =
     simp (

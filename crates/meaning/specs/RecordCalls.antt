@@ -2,9 +2,9 @@
 --
 --   handed                      1 to 5 of a call on records
 --   Spot Spots addressed        sub-views, and where their offsets can be told
---   asLeft asRight asProduct    views
+--   asLeftCall asRightCall asProductCall    views
 --   equal compareCall           equality and order
---   paddedLen compactLen        lengths
+--   paddedLenCall compactLenCall        lengths
 --   results                     1 to 7 of a constructor
 --   unitCall zeroCall leftCall rightCall noneCall someCall productCall, and the same with Out for the output
 use Prim.Native.Nat.{ℕ, zero, suc, _+_, _-_, Ordering, Ordering·lt, Ordering·eq, Ordering·gt, compare}
@@ -37,8 +37,8 @@ abbrev pub addressed : Table → Record → List Rung
 addressed t r = rung (ltb top (r .offset + bits (typeOf t r))) 5 0 ∷ []
 
 -- `as_left`: the payload of a left record, after tag and padding; the node is the side as the column has it.
-abbrev pub asLeft : Table → Record → Answer Spot
-asLeft t r =
+abbrev pub asLeftCall : Table → Record → Answer Spot
+asLeftCall t r =
     ladder (handed t (r ∷ []) [] ++ (addressed t r ++ shaped (isSum (typeOf t r) && not (tag (recordBits t r)))))
     (record {
       offset = r .offset + (1 + padLeft (leftSide (typeOf t r)) (rightSide (typeOf t r)));
@@ -46,8 +46,8 @@ asLeft t r =
     })
 
 -- `as_right`: the payload of a right record.
-abbrev pub asRight : Table → Record → Answer Spot
-asRight t r =
+abbrev pub asRightCall : Table → Record → Answer Spot
+asRightCall t r =
     ladder (handed t (r ∷ []) [] ++ (addressed t r ++ shaped (isSum (typeOf t r) && tag (recordBits t r))))
     (record {
       offset = r .offset + (1 + padRight (leftSide (typeOf t r)) (rightSide (typeOf t r)));
@@ -55,8 +55,8 @@ asRight t r =
     })
 
 -- `as_product`: the two parts, one after the other.
-abbrev pub asProduct : Table → Record → Answer Spots
-asProduct t r =
+abbrev pub asProductCall : Table → Record → Answer Spots
+asProductCall t r =
     ladder (handed t (r ∷ []) [] ++ (addressed t r ++ shaped (isProd (typeOf t r))))
     (record {
       first = record { offset = r .offset; node = left (t .columns) (r .node) };
@@ -64,8 +64,8 @@ asProduct t r =
     })
 
 -- `equal`: the same class, which is the same tree, and the same width bits.
-abbrev pub equal : Table → Record → Record → Answer Bool
-equal t a b = ladder (handed t (a ∷ b ∷ []) []) (same (typeOf t a) (typeOf t b) && sameBits (recordBits t a) (recordBits t b))
+abbrev pub equalCall : Table → Record → Record → Answer Bool
+equalCall t a b = ladder (handed t (a ∷ b ∷ []) []) (same (typeOf t a) (typeOf t b) && sameBits (recordBits t a) (recordBits t b))
 
 -- The order of two types goes first; where it does not decide, the bits do.
 abbrev pub orderThen : Ordering → Ordering → Ordering
@@ -84,12 +84,12 @@ compareCall t a b =
     (orderThen (orderTypes t (a .node) (b .node)) (orderBits (recordBits t a) (recordBits t b)))
 
 -- `padded_len`: the width.
-abbrev pub paddedLen : Table → Record → Answer ℕ
-paddedLen t r = ladder (handed t (r ∷ []) []) (bits (typeOf t r))
+abbrev pub paddedLenCall : Table → Record → Answer ℕ
+paddedLenCall t r = ladder (handed t (r ∷ []) []) (bits (typeOf t r))
 
 -- `compact_len`: the number of compact bits.
-abbrev pub compactLen : Table → Record → Answer ℕ
-compactLen t r = ladder (handed t (r ∷ []) []) (length (compact (typeOf t r) (recordBits t r)))
+abbrev pub compactLenCall : Table → Record → Answer ℕ
+compactLenCall t r = ladder (handed t (r ∷ []) []) (length (compact (typeOf t r) (recordBits t r)))
 
 -- The rungs of a constructor whose result is a type of the right shape.
 abbrev pub results : Table → List Record → ℕ → Bool → List Rung

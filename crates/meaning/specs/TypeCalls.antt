@@ -1,11 +1,11 @@
 -- The calls on tables and types, each with its answer and, where it fills lent columns or groups, their contents afterwards.
 --
---   checkTable                  the check
+--   checkTableCall                  the check
 --   groupOf groupsOf groupsWritten              the groups of nodes, and a buffer with them written
---   fillFacts fillFactsOut      the groups of the facts, from the entries
---   readTable readTableColumns readTableGroups  a table from its file
---   asks factsOf sameType isUnitCall isEmptyCall typeAsSum typeAsProduct padLeftCall padRightCall asWordCall
---   wordWidth bufferWidth isBuffer8 isCtx8      the type-only questions
+--   fillFactsCall fillFactsOut      the groups of the facts, from the entries
+--   readTableCall readTableColumnsOut readTableGroupsOut  a table from its file
+--   asks factsOfCall sameTypeCall isUnitCall isEmptyCall typeAsSumCall typeAsProductCall padLeftCall padRightCall asWordCall
+--   wordWidthCall bufferWidthCall isBuffer8Call isCtx8Call      the type-only questions
 use Prim.Native.Nat.{ℕ, zero, suc, _*_, _-_, max}
 use mathlib.Core.Bool.{Bool, true, false, not, _&&_}
 use mathlib.Core.List.{List, [], _∷_, _++_, map}
@@ -32,12 +32,12 @@ abbrev pub groupsWritten : Columns → ℕ → List ℕ → List ℕ
 groupsWritten c n old = groupsOf c n ++ drop (groupSize * n) old
 
 -- `check_table`: the table is sound.
-abbrev pub checkTable : Table → Answer (Unit {0})
-checkTable t = ladder (sound t) tt
+abbrev pub checkTableCall : Table → Answer (Unit {0})
+checkTableCall t = ladder (sound t) tt
 
 -- `fill_facts`: the entries are judged as in a sound table, and the buffer must have a group for each node.
-abbrev pub fillFacts : Columns → ℕ → List ℕ → Answer (Unit {0})
-fillFacts c n gs =
+abbrev pub fillFactsCall : Columns → ℕ → List ℕ → Answer (Unit {0})
+fillFactsCall c n gs =
     ladder
     (rung (not (countRight n && columnsReach c n)) 1 0
     ∷ rung (ltb (firstBadEntry c n) n) 1 (firstBadEntry c n)
@@ -47,7 +47,7 @@ fillFacts c n gs =
 
 -- The buffer after `fill_facts`.
 abbrev pub fillFactsOut : Columns → ℕ → List ℕ → List ℕ
-fillFactsOut c n gs = kept (fillFacts c n gs) gs (groupsWritten c n gs)
+fillFactsOut c n gs = kept (fillFactsCall c n gs) gs (groupsWritten c n gs)
 
 -- A faulty file is an unsound table, and the place is the fault's.
 abbrev pub fileRung : {A : Type 0} → Reading A → Rung
@@ -61,8 +61,8 @@ entriesIn (found es at) = es
 
 -- `read_table`: the whole file is judged first; then every column must reach the count, which is the answer, and the buffer must have a
 -- group for each node.
-abbrev pub readTable : List ℕ → Columns → List ℕ → Answer ℕ
-readTable file c gs =
+abbrev pub readTableCall : List ℕ → Columns → List ℕ → Answer ℕ
+readTableCall file c gs =
     ladder
     (fileRung (tableIn file)
     ∷ rung (not (columnsReach c (length (entriesIn (tableIn file))) && groupsReach gs (length (entriesIn (tableIn file))))) 9 0
@@ -88,13 +88,13 @@ columnsKept a before after =
     }
 
 -- The entries' columns after `read_table`.
-abbrev pub readTableColumns : List ℕ → Columns → List ℕ → Columns
-readTableColumns file c gs = columnsKept (readTable file c gs) c (entriesWritten (entriesIn (tableIn file)) c)
+abbrev pub readTableColumnsOut : List ℕ → Columns → List ℕ → Columns
+readTableColumnsOut file c gs = columnsKept (readTableCall file c gs) c (entriesWritten (entriesIn (tableIn file)) c)
 
 -- The buffer after `read_table`.
-abbrev pub readTableGroups : List ℕ → Columns → List ℕ → List ℕ
-readTableGroups file c gs =
-    kept (readTable file c gs) gs
+abbrev pub readTableGroupsOut : List ℕ → Columns → List ℕ → List ℕ
+readTableGroupsOut file c gs =
+    kept (readTableCall file c gs) gs
     (groupsWritten (columnsOf (entriesIn (tableIn file))) (length (entriesIn (tableIn file))) gs)
 
 -- A question about the type of a node.
@@ -102,12 +102,12 @@ abbrev pub asks : {A : Type 0} → Table → List ℕ → List Rung → A → An
 asks t ns own a = ladder (sound t ++ (present t ns ++ own)) a
 
 -- `facts_of`: everything that the table says of a node.
-abbrev pub factsOf : Table → ℕ → Answer NodeFacts
-factsOf t n = asks t (n ∷ []) [] (factsAt (t .columns) n)
+abbrev pub factsOfCall : Table → ℕ → Answer NodeFacts
+factsOfCall t n = asks t (n ∷ []) [] (factsAt (t .columns) n)
 
 -- `same_type`: equal types means equal class, which is the same tree.
-abbrev pub sameType : Table → ℕ → ℕ → Answer Bool
-sameType t a b = asks t (a ∷ b ∷ []) [] (same (typeAt t a) (typeAt t b))
+abbrev pub sameTypeCall : Table → ℕ → ℕ → Answer Bool
+sameTypeCall t a b = asks t (a ∷ b ∷ []) [] (same (typeAt t a) (typeAt t b))
 
 -- `is_unit`: the type is unit.
 abbrev pub isUnitCall : Table → ℕ → Answer Bool
@@ -123,16 +123,16 @@ pub record Sides : Type 0 where
   pub rightNode : ℕ
 
 -- The sides of a node.
-abbrev pub sidesOf : Table → ℕ → Sides
-sidesOf t n = record { leftNode = left (t .columns) n; rightNode = right (t .columns) n }
+abbrev pub sidesAt : Table → ℕ → Sides
+sidesAt t n = record { leftNode = left (t .columns) n; rightNode = right (t .columns) n }
 
 -- `as_sum` of a type: the sides of a sum.
-abbrev pub typeAsSum : Table → ℕ → Answer Sides
-typeAsSum t n = asks t (n ∷ []) (shaped (isSum (typeAt t n))) (sidesOf t n)
+abbrev pub typeAsSumCall : Table → ℕ → Answer Sides
+typeAsSumCall t n = asks t (n ∷ []) (shaped (isSum (typeAt t n))) (sidesAt t n)
 
 -- `as_product` of a type: the sides of a product.
-abbrev pub typeAsProduct : Table → ℕ → Answer Sides
-typeAsProduct t n = asks t (n ∷ []) (shaped (isProd (typeAt t n))) (sidesOf t n)
+abbrev pub typeAsProductCall : Table → ℕ → Answer Sides
+typeAsProductCall t n = asks t (n ∷ []) (shaped (isProd (typeAt t n))) (sidesAt t n)
 
 -- `pad_left`: the padding of left records of the sum of two types, by their 64-bit widths.
 abbrev pub padLeftCall : Table → ℕ → ℕ → Answer ℕ
@@ -151,17 +151,17 @@ abbrev pub asWordCall : Table → ℕ → Answer ℕ
 asWordCall t n = asks t (n ∷ []) (shaped (ltb (asWord (typeAt t n)) 32)) (asWord (typeAt t n))
 
 -- `word_width`: the width of word type n.
-abbrev pub wordWidth : ℕ → Answer ℕ
-wordWidth n = ladder (ranged (ltb n 32)) (getD wordWidths n 0)
+abbrev pub wordWidthCall : ℕ → Answer ℕ
+wordWidthCall n = ladder (ranged (ltb n 32)) (getD wordWidths n 0)
 
 -- `buffer_width`: the width of buffer type n.
-abbrev pub bufferWidth : ℕ → Answer ℕ
-bufferWidth n = ladder (ranged (ltb n 13)) (bits (buffer n))
+abbrev pub bufferWidthCall : ℕ → Answer ℕ
+bufferWidthCall n = ladder (ranged (ltb n 13)) (bits (buffer n))
 
 -- `is_buffer8`: the type is buffer type n.
-abbrev pub isBuffer8 : Table → ℕ → ℕ → Answer Bool
-isBuffer8 t a n = asks t (a ∷ []) (ranged (ltb n 13)) (same (typeAt t a) (buffer n))
+abbrev pub isBuffer8Call : Table → ℕ → ℕ → Answer Bool
+isBuffer8Call t a n = asks t (a ∷ []) (ranged (ltb n 13)) (same (typeAt t a) (buffer n))
 
 -- `is_ctx8`: the type is the hash state's.
-abbrev pub isCtx8 : Table → ℕ → Answer Bool
-isCtx8 t a = asks t (a ∷ []) [] (same (typeAt t a) ctx8)
+abbrev pub isCtx8Call : Table → ℕ → Answer Bool
+isCtx8Call t a = asks t (a ∷ []) [] (same (typeAt t a) ctx8)

@@ -4,7 +4,6 @@
 // One walk judges and only reads, a second one writes: a refusal has changed nothing.
 use answers::Count;
 use answers::Done;
-use answers::Refusal;
 use nodes::Node;
 ghost use mathlib.Core.Path.{_≡_};
 ghost use mathlib.Core.Bool.{true};
@@ -245,17 +244,11 @@ pub fn prune(
     let src = &bytes[first..];
     let at = offset % 8;
     if !fits(kinds, lefts, rights, groups, count, src, at, node, target) {
-        return Count::Refused(Refusal {
-            number: 7,
-            place: 0,
-        });
+        return Count::Refused(answers::WRONG_SHAPE);
     }
     let width = groups::width_at(groups, target) as usize;
     if out.len() < (width + 7) / 8 {
-        return Count::Refused(Refusal {
-            number: 9,
-            place: 0,
-        });
+        return Count::Refused(answers::NO_ROOM);
     }
     write(
         kinds,

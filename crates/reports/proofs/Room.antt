@@ -16,7 +16,7 @@ use Rattle.meaning.specs.Groups.{groupSize}
 use Rattle.meaning.specs.Tables.{Columns, columns, columnsReach}
 use Rattle.meaning.specs.Files.{Reading, faulty, found, Entry, tableIn}
 use Rattle.meaning.specs.Ladder.{Answer, refused, accepted, ladder}
-use Rattle.meaning.specs.TypeCalls.{readTable}
+use Rattle.meaning.specs.TypeCalls.{readTableCall}
 use Rattle.meaning.proofs.Ladders.{accepted-refused, numberOf}
 use Rattle.files.proofs.Right.{count-right}
 
@@ -36,15 +36,15 @@ fits n h =
     rw (le-leb n (length zs) (omega arith), le-leb (groupSize * n) (length zeroGroups) (omega arith))
 
 -- What is read decides alone.
-accepts : (file : List ℕ) (es : List Entry) (at : ℕ) → tableIn file ≡ found es at → readTable file zeroColumns zeroGroups ≡ accepted (length es)
+accepts : (file : List ℕ) (es : List Entry) (at : ℕ) → tableIn file ≡ found es at → readTableCall file zeroColumns zeroGroups ≡ accepted (length es)
 unfolding ladder
 accepts file es at e = rw (e, fits (length es) (count-right file es at e .1))
 
-refuses : (file : List ℕ) (q : ℕ) → tableIn file ≡ faulty q → readTable file zeroColumns zeroGroups ≡ refused 1 q
+refuses : (file : List ℕ) (q : ℕ) → tableIn file ≡ faulty q → readTableCall file zeroColumns zeroGroups ≡ refused 1 q
 unfolding ladder
 refuses file q e = rw e
 
-pub only-faults : (file : List ℕ) (n p : ℕ) → refused n p ≡ readTable file zeroColumns zeroGroups → n ≡ 1
+pub only-faults : (file : List ℕ) (n p : ℕ) → refused n p ≡ readTableCall file zeroColumns zeroGroups → n ≡ 1
 only-faults file n p h = go (tableIn file) refl
   where
     go : (r : Reading (List Entry)) → tableIn file ≡ r → n ≡ 1
@@ -56,7 +56,7 @@ abbrev countIn : Answer ℕ → ℕ
 countIn (refused n p) = 0
 countIn (accepted n) = n
 
-pub few : (file : List ℕ) (n : ℕ) → accepted n ≡ readTable file zeroColumns zeroGroups → n ≤ 1024
+pub few : (file : List ℕ) (n : ℕ) → accepted n ≡ readTableCall file zeroColumns zeroGroups → n ≤ 1024
 few file n h = go (tableIn file) refl
   where
     go : (r : Reading (List Entry)) → tableIn file ≡ r → n ≤ 1024

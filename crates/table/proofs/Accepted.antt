@@ -19,7 +19,7 @@ use Rattle.meaning.specs.Tables.{Columns, Table, factsIn, kind, left, right, en
 use Rattle.meaning.specs.Files.{found, Entry, tableIn, columnsOf}
 use Rattle.meaning.specs.Ladder.{Answer, accepted, kept}
 use Rattle.meaning.specs.Checked.{Sound, Bytes}
-use Rattle.meaning.specs.TypeCalls.{groupsWritten, checkTable, fillFacts, fillFactsOut, readTable, readTableColumns, readTableGroups, entriesIn, entriesWritten, columnsKept}
+use Rattle.meaning.specs.TypeCalls.{groupsWritten, checkTableCall, fillFactsCall, fillFactsOut, readTableCall, readTableColumnsOut, readTableGroupsOut, entriesIn, entriesWritten, columnsKept}
 use Rattle.meaning.proofs.Choices.{least-none}
 use Rattle.meaning.proofs.Groups.{length-fact}
 use Rattle.meaning.proofs.GroupLaws.{length-groupsWritten, written-right}
@@ -54,14 +54,14 @@ filled-sound c n g some h =
       told = λ k b. written-right c n g k b few;
     }
 
-pub fill-checked : (c : Columns) (n : ℕ) (g : List ℕ) → fillFacts c n g ≡ accepted (tt {0}) → checkTable (tableOf c (fillFactsOut c n g) n) ≡ accepted (tt {0})
+pub fill-checked : (c : Columns) (n : ℕ) (g : List ℕ) → fillFactsCall c n g ≡ accepted (tt {0}) → checkTableCall (tableOf c (fillFactsOut c n g) n) ≡ accepted (tt {0})
 fill-checked c n g h =
     let r = fillable c n g (sym h) in
-    ap (λ a. checkTable (tableOf c (kept a g (groupsWritten c n g)) n)) h
+    ap (λ a. checkTableCall (tableOf c (kept a g (groupsWritten c n g)) n)) h
     ∙ sound-accepted (tableOf c (groupsWritten c n g) n) (filled-sound c n g (r .some-node) (r .can-fill))
 
-pub checked-filled : (c : Columns) (n : ℕ) (g : List ℕ) → Bytes g → checkTable (tableOf c g n) ≡ accepted (tt {0})
-    → (fillFacts c n g ≡ accepted (tt {0})) × (fillFactsOut c n g ≡ g)
+pub checked-filled : (c : Columns) (n : ℕ) (g : List ℕ) → Bytes g → checkTableCall (tableOf c g n) ≡ accepted (tt {0})
+    → (fillFactsCall c n g ≡ accepted (tt {0})) × (fillFactsOut c n g ≡ g)
 unfolding firstBadEntry
 checked-filled c n g b h =
     let s = accepted-sound (tableOf c g n) h in
@@ -76,26 +76,26 @@ checked-filled c n g b h =
 abbrev past : Entry
 past = record { kind = 0; left = 0; right = 0 }
 
-module _ (file : List ℕ) (c : Columns) (g : List ℕ) (n : ℕ) (h : readTable file c g ≡ accepted n) where
+module _ (file : List ℕ) (c : Columns) (g : List ℕ) (n : ℕ) (h : readTableCall file c g ≡ accepted n) where
   -- The nodes of the file, and the table that they are read to.
   abbrev nodes : List Entry
   nodes = entriesIn (tableIn file)
 
-  columns-are : readTableColumns file c g ≡ entriesWritten nodes c
+  columns-are : readTableColumnsOut file c g ≡ entriesWritten nodes c
   columns-are = ap (λ a. columnsKept a c (entriesWritten nodes c)) h
 
-  groups-are : readTableGroups file c g ≡ groupsWritten (entriesWritten nodes c) n g
+  groups-are : readTableGroupsOut file c g ≡ groupsWritten (entriesWritten nodes c) n g
   groups-are =
       ap (λ a. kept a g (groupsWritten (columnsOf nodes) (length nodes) g)) h
       ∙ sym (groups-after file c g n (sym h) (entriesWritten nodes c) refl)
 
-  pub read-sound : Sound (tableOf (readTableColumns file c g) (readTableGroups file c g) n)
+  pub read-sound : Sound (tableOf (readTableColumnsOut file c g) (readTableGroupsOut file c g) n)
   read-sound =
       subst Sound (sym (λ i. tableOf (columns-are i) (groups-are i) n))
       (filled-sound (entriesWritten nodes c) n g (some-node file c g n (sym h)) (fillable-after file c g n (sym h) (entriesWritten nodes c) refl))
 
-  pub read-checked : checkTable (tableOf (readTableColumns file c g) (readTableGroups file c g) n) ≡ accepted (tt {0})
-  read-checked = sound-accepted (tableOf (readTableColumns file c g) (readTableGroups file c g) n) read-sound
+  pub read-checked : checkTableCall (tableOf (readTableColumnsOut file c g) (readTableGroupsOut file c g) n) ≡ accepted (tt {0})
+  read-checked = sound-accepted (tableOf (readTableColumnsOut file c g) (readTableGroupsOut file c g) n) read-sound
 
   -- The entry of a node that is read.
   entry-at : (f : Entry → ℕ) (old : List ℕ) (k : ℕ) → k < n → getD (map f nodes ++ drop (length nodes) old) k (f past) ≡ f (getD nodes k past)
@@ -104,13 +104,13 @@ module _ (file : List ℕ) (c : Columns) (g : List ℕ) (n : ℕ) (h : readTable
       let m = length-map nodes f in
       List·getD-append (map f nodes) (drop (length nodes) old) (f past) k (omega arith) ∙ List·getD-map f nodes k past
 
-  kind-at : (k : ℕ) → k < n → kind (readTableColumns file c g) k ≡ getD nodes k past .kind
+  kind-at : (k : ℕ) → k < n → kind (readTableColumnsOut file c g) k ≡ getD nodes k past .kind
   kind-at k l = ap (λ z. kind z k) columns-are ∙ entry-at (λ e. e .kind) (c .kinds) k l
 
-  left-at : (k : ℕ) → k < n → left (readTableColumns file c g) k ≡ getD nodes k past .left
+  left-at : (k : ℕ) → k < n → left (readTableColumnsOut file c g) k ≡ getD nodes k past .left
   left-at k l = ap (λ z. left z k) columns-are ∙ entry-at (λ e. e .left) (c .lefts) k l
 
-  right-at : (k : ℕ) → k < n → right (readTableColumns file c g) k ≡ getD nodes k past .right
+  right-at : (k : ℕ) → k < n → right (readTableColumnsOut file c g) k ≡ getD nodes k past .right
   right-at k l = ap (λ z. right z k) columns-are ∙ entry-at (λ e. e .right) (c .rights) k l
 
   is-found : tableIn file ≡ found nodes (endOf (tableIn file))
@@ -122,8 +122,8 @@ pub record SameNodes (n : ℕ) (c d : Columns) : Type 0 where
   pub same-lefts : (k : ℕ) → k < n → left c k ≡ left d k
   pub same-rights : (k : ℕ) → k < n → right c k ≡ right d k
 
-module _ (a b : List ℕ) (c d : Columns) (f g : List ℕ) (n : ℕ) (p : readTable a c f ≡ accepted n) (q : readTable b d g ≡ accepted n) where
-  same-nodes : SameNodes n (readTableColumns a c f) (readTableColumns b d g) → nodes a c f n p ≡ nodes b d g n q
+module _ (a b : List ℕ) (c d : Columns) (f g : List ℕ) (n : ℕ) (p : readTableCall a c f ≡ accepted n) (q : readTableCall b d g ≡ accepted n) where
+  same-nodes : SameNodes n (readTableColumnsOut a c f) (readTableColumnsOut b d g) → nodes a c f n p ≡ nodes b d g n q
   same-nodes s =
       let e = read-in a c f n (sym p) .counted in
       let w = read-in b d g n (sym q) .counted in
@@ -136,7 +136,7 @@ module _ (a b : List ℕ) (c d : Columns) (f g : List ℕ) (n : ℕ) (p : readTa
           let z = sym (right-at a c f n p k l) ∙ s .same-rights k l ∙ right-at b d g n q k l in
           λ i. record { kind = x i; left = y i; right = z i }
 
-  pub file-unambiguous : Bytes a → Bytes b → SameNodes n (readTableColumns a c f) (readTableColumns b d g) → a ≡ b
+  pub file-unambiguous : Bytes a → Bytes b → SameNodes n (readTableColumnsOut a c f) (readTableColumnsOut b d g) → a ≡ b
   file-unambiguous j k s =
       file-unique a b j k (nodes b d g n q) (endOf (tableIn a)) (endOf (tableIn b))
       (is-found a c f n p ∙ ap (λ es. found es (endOf (tableIn a))) (same-nodes s)) (is-found b d g n q)

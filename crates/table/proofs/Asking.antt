@@ -21,7 +21,7 @@ use lib.Dec.{leb}
 use borrow.Author.Tests.{leb-false, le-leb, lt-leb}
 use Rattle.meaning.specs.Tables.{Table, NodeFacts, factsAt}
 use Rattle.meaning.specs.Ladder.{Answer, refused, accepted, Rung, rung, ladder, sound, present}
-use Rattle.meaning.specs.TypeCalls.{checkTable, asks, factsOf}
+use Rattle.meaning.specs.TypeCalls.{checkTableCall, asks, factsOfCall}
 use Rattle.meaning.specs.Checked.{Sound}
 use Rattle.meaning.proofs.Tests.{or-inl, or-inr, or-none, or-false-left, or-false-right}
 use Rattle.meaning.proofs.Ladders.{accepted-refused, accepted-sound, ladder-pass, ladder-stop, ladder-holds, ladder-fails, ladder-clear}
@@ -41,24 +41,24 @@ module _ (t : Table) (a b : ℕ) where
   abbrev absent : Bool
   absent = leb (t .count) a || (leb (t .count) b || false)
 
-  pub not-sound : (n p : ℕ) → refused n p ≡ checkTable t → refused n p ≡ judged t (a ∷ b ∷ [])
+  pub not-sound : (n p : ℕ) → refused n p ≡ checkTableCall t → refused n p ≡ judged t (a ∷ b ∷ [])
   not-sound n p h = sym (ladder-stop (sound t) (present t (a ∷ b ∷ [])) (tt {0}) (tt {0}) n p (sym h))
 
-  after-sound : accepted (tt {0}) ≡ checkTable t → judged t (a ∷ b ∷ []) ≡ ladder (present t (a ∷ b ∷ [])) (tt {0})
+  after-sound : accepted (tt {0}) ≡ checkTableCall t → judged t (a ∷ b ∷ []) ≡ ladder (present t (a ∷ b ∷ [])) (tt {0})
   after-sound h = ladder-pass (sound t) (present t (a ∷ b ∷ [])) (tt {0}) (tt {0}) (tt {0}) (sym h)
 
-  missing : accepted (tt {0}) ≡ checkTable t → absent ≡ true → refused 2 0 ≡ judged t (a ∷ b ∷ [])
+  missing : accepted (tt {0}) ≡ checkTableCall t → absent ≡ true → refused 2 0 ≡ judged t (a ∷ b ∷ [])
   missing h m = sym (after-sound h ∙ ladder-holds absent 2 0 [] (tt {0}) m)
 
-  pub first-missing : accepted (tt {0}) ≡ checkTable t → t .count ≤ a → refused 2 0 ≡ judged t (a ∷ b ∷ [])
+  pub first-missing : accepted (tt {0}) ≡ checkTableCall t → t .count ≤ a → refused 2 0 ≡ judged t (a ∷ b ∷ [])
   first-missing h m = missing h (or-inl (leb (t .count) a) (leb (t .count) b || false) (le-leb (t .count) a m))
 
-  pub second-missing : accepted (tt {0}) ≡ checkTable t → t .count ≤ b → refused 2 0 ≡ judged t (a ∷ b ∷ [])
+  pub second-missing : accepted (tt {0}) ≡ checkTableCall t → t .count ≤ b → refused 2 0 ≡ judged t (a ∷ b ∷ [])
   second-missing h m =
       missing h
       (or-inr (leb (t .count) a) (leb (t .count) b || false) (or-inl (leb (t .count) b) false (le-leb (t .count) b m)))
 
-  pub both-there : accepted (tt {0}) ≡ checkTable t → a < t .count → b < t .count → accepted (tt {0}) ≡ judged t (a ∷ b ∷ [])
+  pub both-there : accepted (tt {0}) ≡ checkTableCall t → a < t .count → b < t .count → accepted (tt {0}) ≡ judged t (a ∷ b ∷ [])
   unfolding ladder
   both-there h m n =
       sym
@@ -129,10 +129,10 @@ pub record Told (t : Table) (n : ℕ) (f : NodeFacts) : Type 0 where
   pub n-in : n < t .count
 
 module _ (t : Table) (n : ℕ) where
-  pub told-stop : {A : Type 0} (own : List Rung) (v : A) (m p : ℕ) → refused m p ≡ factsOf t n → refused m p ≡ asks t (n ∷ []) own v
+  pub told-stop : {A : Type 0} (own : List Rung) (v : A) (m p : ℕ) → refused m p ≡ factsOfCall t n → refused m p ≡ asks t (n ∷ []) own v
   told-stop own v m p h = sym (ladder-stop (sound t ++ present t (n ∷ [])) own (factsAt (t .columns) n) v m p (sym h))
 
-  module _ {f : NodeFacts} (h : accepted f ≡ factsOf t n) where
+  module _ {f : NodeFacts} (h : accepted f ≡ factsOfCall t n) where
     pub told-pass : {A : Type 0} (own : List Rung) (v : A) → ladder own v ≡ asks t (n ∷ []) own v
     told-pass own v = sym (ladder-pass (sound t ++ present t (n ∷ [])) own (factsAt (t .columns) n) f v (sym h))
 

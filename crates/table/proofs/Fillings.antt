@@ -20,7 +20,7 @@ use borrow.Author.Tests.{ltb-false, leb-true, lt-ltb, le-ltb, le-leb, lt-leb, no
 use Rattle.meaning.specs.Groups.{groupSize}
 use Rattle.meaning.specs.Tables.{Columns, countRight, columnsReach, groupsReach, reaches, entryRight, firstBadEntry}
 use Rattle.meaning.specs.Ladder.{Answer, refused, accepted, Rung, rung, ladder, kept}
-use Rattle.meaning.specs.TypeCalls.{groupsWritten, fillFacts, fillFactsOut}
+use Rattle.meaning.specs.TypeCalls.{groupsWritten, fillFactsCall, fillFactsOut}
 use Rattle.meaning.proofs.Tests.{and-left, and-right, and-both}
 use Rattle.meaning.proofs.Choices.{least-before}
 use Rattle.meaning.proofs.Ladders.{ladder-holds, ladder-fails, ladder-clear, kept-refused, kept-accepted}
@@ -57,39 +57,39 @@ module _ (c : Columns) (n : ℕ) (g : List ℕ) where
   abbrev room : List Rung
   room = rung (not (groupsReach g n)) 9 0 ∷ []
 
-  misshaped : shape ≡ false → refused 1 0 ≡ fillFacts c n g
+  misshaped : shape ≡ false → refused 1 0 ≡ fillFactsCall c n g
   misshaped h = sym (ladder-holds (not shape) 1 0 entries (tt {0}) (ap not h))
 
-  pub too-few : n < 1 → refused 1 0 ≡ fillFacts c n g
+  pub too-few : n < 1 → refused 1 0 ≡ fillFactsCall c n g
   too-few h = misshaped (rw (lt-leb 1 n h))
 
-  pub too-many : 1024 < n → refused 1 0 ≡ fillFacts c n g
+  pub too-many : 1024 < n → refused 1 0 ≡ fillFactsCall c n g
   too-many h = misshaped (ap (λ b. b && columnsReach c n) (and-fails (leb 1 n) (leb n 1024) (lt-leb n 1024 h)))
 
-  pub short-column : columnsReach c n ≡ false → refused 1 0 ≡ fillFacts c n g
+  pub short-column : columnsReach c n ≡ false → refused 1 0 ≡ fillFactsCall c n g
   short-column h = misshaped (and-fails (countRight n) (columnsReach c n) h)
 
   module _ (some : 1 ≤ n) (few : n ≤ 1024) (reach : columnsReach c n ≡ true) where
-    after-shape : fillFacts c n g ≡ ladder entries (tt {0})
+    after-shape : fillFactsCall c n g ≡ ladder entries (tt {0})
     after-shape =
         ladder-fails (not shape) 1 0 entries (tt {0})
         (ap not (and-both (countRight n) (columnsReach c n) (and-both (leb 1 n) (leb n 1024) (le-leb 1 n some) (le-leb n 1024 few)) reach))
 
-    pub faulty-entry : (p : ℕ) → p ≡ firstBadEntry c n → p < n → refused 1 p ≡ fillFacts c n g
+    pub faulty-entry : (p : ℕ) → p ≡ firstBadEntry c n → p < n → refused 1 p ≡ fillFactsCall c n g
     faulty-entry p e h =
         let l : firstBadEntry c n < n = omega arith in
         ap (refused 1) e ∙ sym (after-shape ∙ ladder-holds (ltb (firstBadEntry c n) n) 1 (firstBadEntry c n) room (tt {0}) (lt-ltb (firstBadEntry c n) n l))
 
     module _ (p : ℕ) (e : p ≡ firstBadEntry c n) (h : n ≤ p) where
-      after-entries : fillFacts c n g ≡ ladder room (tt {0})
+      after-entries : fillFactsCall c n g ≡ ladder room (tt {0})
       after-entries =
           let l : n ≤ firstBadEntry c n = omega arith in
           after-shape ∙ ladder-fails (ltb (firstBadEntry c n) n) 1 (firstBadEntry c n) room (tt {0}) (le-ltb (firstBadEntry c n) n l)
 
-      pub short-groups : groupsReach g n ≡ false → refused 9 0 ≡ fillFacts c n g
+      pub short-groups : groupsReach g n ≡ false → refused 9 0 ≡ fillFactsCall c n g
       short-groups r = sym (after-entries ∙ ladder-holds (not (groupsReach g n)) 9 0 [] (tt {0}) (ap not r))
 
-      pub all-right : groupsReach g n ≡ true → accepted (tt {0}) ≡ fillFacts c n g
+      pub all-right : groupsReach g n ≡ true → accepted (tt {0}) ≡ fillFactsCall c n g
       unfolding ladder
       all-right r = sym (after-entries ∙ ladder-fails (not (groupsReach g n)) 9 0 [] (tt {0}) (ap not r))
 
@@ -98,7 +98,7 @@ module _ (c : Columns) (n : ℕ) (g : List ℕ) where
     pub some-node : 1 ≤ n
     pub can-fill : Fillable c g n
 
-  pub fillable : accepted (tt {0}) ≡ fillFacts c n g → Right
+  pub fillable : accepted (tt {0}) ≡ fillFactsCall c n g → Right
   unfolding firstBadEntry
   fillable h =
       let first = ladder-clear (not shape) 1 0 entries (tt {0}) (tt {0}) (sym h) in
@@ -123,10 +123,10 @@ module _ (c : Columns) (n : ℕ) (g : List ℕ) where
 
   -- An answer of `fill_facts` with the groups afterwards.
   abbrev pub Fills : Answer (Unit {0}) → List ℕ → Type 0
-  Fills a h = (a ≡ fillFacts c n g) × (h ≡ fillFactsOut c n g)
+  Fills a h = (a ≡ fillFactsCall c n g) × (h ≡ fillFactsOut c n g)
 
-  pub fill-refused : (m p : ℕ) → refused m p ≡ fillFacts c n g → Fills (refused m p) g
-  fill-refused m p h = (h, sym (kept-refused (fillFacts c n g) m p g (groupsWritten c n g) (sym h)))
+  pub fill-refused : (m p : ℕ) → refused m p ≡ fillFactsCall c n g → Fills (refused m p) g
+  fill-refused m p h = (h, sym (kept-refused (fillFactsCall c n g) m p g (groupsWritten c n g) (sym h)))
 
-  pub fill-accepted : (after : List ℕ) → accepted (tt {0}) ≡ fillFacts c n g → after ≡ groupsWritten c n g → Fills (accepted (tt {0})) after
-  fill-accepted after h d = (h, d ∙ sym (kept-accepted (fillFacts c n g) (tt {0}) g (groupsWritten c n g) (sym h)))
+  pub fill-accepted : (after : List ℕ) → accepted (tt {0}) ≡ fillFactsCall c n g → after ≡ groupsWritten c n g → Fills (accepted (tt {0})) after
+  fill-accepted after h d = (h, d ∙ sym (kept-accepted (fillFactsCall c n g) (tt {0}) g (groupsWritten c n g) (sym h)))

@@ -20,7 +20,7 @@ use Rattle.meaning.specs.Groups.{groupSize}
 use Rattle.meaning.specs.Tables.{Columns, entryRight, columnsReach, groupsReach}
 use Rattle.meaning.specs.Files.{Reading, faulty, found, Entry, tableIn, columnsOf}
 use Rattle.meaning.specs.Ladder.{Answer, refused, accepted, rung, ladder, kept}
-use Rattle.meaning.specs.TypeCalls.{groupsWritten, fileRung, entriesIn, entriesWritten, readTable, readTableColumns, readTableGroups}
+use Rattle.meaning.specs.TypeCalls.{groupsWritten, fileRung, entriesIn, entriesWritten, readTableCall, readTableColumnsOut, readTableGroupsOut}
 use Rattle.meaning.proofs.Tests.{and-left, and-right, and-both}
 use Rattle.meaning.proofs.Ladders.{accepted-refused, ladder-holds, ladder-fails, ladder-clear, kept-refused, kept-accepted}
 use Rattle.facts.specs.Known.{Reach, Fillable}
@@ -36,7 +36,7 @@ module _ (file : List ℕ) (c : Columns) (g : List ℕ) where
   abbrev nodes : List Entry
   nodes = entriesIn (tableIn file)
 
-  pub file-fault : (p : ℕ) → refused 1 p ≡ fileVerdict (tableIn file) → refused 1 p ≡ readTable file c g
+  pub file-fault : (p : ℕ) → refused 1 p ≡ fileVerdict (tableIn file) → refused 1 p ≡ readTableCall file c g
   file-fault p h = sym (read-refused file c g p (sym h))
 
   -- A file with no fault.
@@ -50,16 +50,16 @@ module _ (file : List ℕ) (c : Columns) (g : List ℕ) where
     abbrev fits : Bool
     fits = columnsReach c n && groupsReach g n
 
-    no-room : fits ≡ false → refused 9 0 ≡ readTable file c g
+    no-room : fits ≡ false → refused 9 0 ≡ readTableCall file c g
     no-room r = sym (read-accepted file c g n (sym h) ∙ ladder-holds (not fits) 9 0 [] n (ap not r))
 
-    pub short-columns : columnsReach c n ≡ false → refused 9 0 ≡ readTable file c g
+    pub short-columns : columnsReach c n ≡ false → refused 9 0 ≡ readTableCall file c g
     short-columns r = no-room (ap (λ b. b && groupsReach g n) r)
 
-    pub short-room : groupsReach g n ≡ false → refused 9 0 ≡ readTable file c g
+    pub short-room : groupsReach g n ≡ false → refused 9 0 ≡ readTableCall file c g
     short-room r = no-room (and-fails (columnsReach c n) (groupsReach g n) r)
 
-    pub all-read : columnsReach c n ≡ true → groupsReach g n ≡ true → accepted n ≡ readTable file c g
+    pub all-read : columnsReach c n ≡ true → groupsReach g n ≡ true → accepted n ≡ readTableCall file c g
     unfolding ladder
     all-read r s =
         sym
@@ -73,7 +73,7 @@ module _ (file : List ℕ) (c : Columns) (g : List ℕ) where
     pub entries-reach : Reach c (length nodes)
     pub groups-reach : groupSize * length nodes ≤ length g
 
-  module _ (n : ℕ) (h : accepted n ≡ readTable file c g) where
+  module _ (n : ℕ) (h : accepted n ≡ readTableCall file c g) where
     pub read-in : ReadIn n
     unfolding ladder
     read-in =
@@ -147,20 +147,20 @@ module _ (file : List ℕ) (c : Columns) (g : List ℕ) where
   -- An answer of `read_table` with all columns and the groups afterwards.
   abbrev pub Reads : Answer ℕ → Columns → List ℕ → Type 0
   Reads a d h =
-      (a ≡ readTable file c g)
-      × ((d .kinds ≡ readTableColumns file c g .kinds)
-      × ((d .lefts ≡ readTableColumns file c g .lefts)
-      × ((d .rights ≡ readTableColumns file c g .rights)
-      × (h ≡ readTableGroups file c g))))
+      (a ≡ readTableCall file c g)
+      × ((d .kinds ≡ readTableColumnsOut file c g .kinds)
+      × ((d .lefts ≡ readTableColumnsOut file c g .lefts)
+      × ((d .rights ≡ readTableColumnsOut file c g .rights)
+      × (h ≡ readTableGroupsOut file c g))))
 
   -- A column after a refusal, and after an accepted call.
-  stays : (m p : ℕ) → refused m p ≡ readTable file c g → (before after : List ℕ) → before ≡ kept (readTable file c g) before after
-  stays m p h before after = sym (kept-refused (readTable file c g) m p before after (sym h))
+  stays : (m p : ℕ) → refused m p ≡ readTableCall file c g → (before after : List ℕ) → before ≡ kept (readTableCall file c g) before after
+  stays m p h before after = sym (kept-refused (readTableCall file c g) m p before after (sym h))
 
-  turns : (n : ℕ) → accepted n ≡ readTable file c g → (before after now′ : List ℕ) → now′ ≡ after → now′ ≡ kept (readTable file c g) before after
-  turns n h before after now′ e = e ∙ sym (kept-accepted (readTable file c g) n before after (sym h))
+  turns : (n : ℕ) → accepted n ≡ readTableCall file c g → (before after now′ : List ℕ) → now′ ≡ after → now′ ≡ kept (readTableCall file c g) before after
+  turns n h before after now′ e = e ∙ sym (kept-accepted (readTableCall file c g) n before after (sym h))
 
-  pub read-kept : (m p : ℕ) → refused m p ≡ readTable file c g → Reads (refused m p) c g
+  pub read-kept : (m p : ℕ) → refused m p ≡ readTableCall file c g → Reads (refused m p) c g
   read-kept m p h =
       let d = entriesWritten nodes c in
       let s = stays m p h in (
@@ -171,7 +171,7 @@ module _ (file : List ℕ) (c : Columns) (g : List ℕ) where
         ),
       )
 
-  pub read-written : (n : ℕ) (d : Columns) (after : List ℕ) → accepted n ≡ readTable file c g → d ≡ entriesWritten nodes c → after ≡ groupsWritten d n g
+  pub read-written : (n : ℕ) (d : Columns) (after : List ℕ) → accepted n ≡ readTableCall file c g → d ≡ entriesWritten nodes c → after ≡ groupsWritten d n g
       → Reads (accepted n) d after
   read-written n d after h e w =
       let x = entriesWritten nodes c in

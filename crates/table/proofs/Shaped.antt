@@ -16,7 +16,7 @@ use Rattle.meaning.specs.Types.{same, bits}
 use Rattle.meaning.specs.Tables.{Table}
 use Rattle.meaning.specs.Words.{wordWidths, asWord, buffer, ctx8}
 use Rattle.meaning.specs.Ladder.{refused, accepted, rung, ladder, typeAt, ranged, shaped}
-use Rattle.meaning.specs.TypeCalls.{asWordCall, wordWidth, bufferWidth, isBuffer8, isCtx8}
+use Rattle.meaning.specs.TypeCalls.{asWordCall, wordWidthCall, bufferWidthCall, isBuffer8Call, isCtx8Call}
 use Rattle.meaning.proofs.Ladders.{ladder-holds, ladder-fails}
 use Rattle.table.proofs.Asking.{judged, once-pass, once-answered}
 
@@ -29,16 +29,16 @@ module _ {A : Type 0} (right : Bool) (m : ℕ) (v : A) where
   own-passes h w e = ap accepted e ∙ sym (ladder-fails (not right) m 0 [] v (ap not h))
 
 module _ (n : ℕ) where
-  pub no-word-width : 32 ≤ n → refused 6 0 ≡ wordWidth n
+  pub no-word-width : 32 ≤ n → refused 6 0 ≡ wordWidthCall n
   no-word-width h = own-holds (ltb n 32) 6 (getD wordWidths n 0) (le-ltb n 32 h)
 
-  pub word-width-told : n < 32 → (r : ℕ) → r ≡ getD wordWidths n 0 → accepted r ≡ wordWidth n
+  pub word-width-told : n < 32 → (r : ℕ) → r ≡ getD wordWidths n 0 → accepted r ≡ wordWidthCall n
   word-width-told h r e = own-passes (ltb n 32) 6 (getD wordWidths n 0) (lt-ltb n 32 h) r e
 
-  pub no-buffer-width : 13 ≤ n → refused 6 0 ≡ bufferWidth n
+  pub no-buffer-width : 13 ≤ n → refused 6 0 ≡ bufferWidthCall n
   no-buffer-width h = own-holds (ltb n 13) 6 (bits (buffer n)) (le-ltb n 13 h)
 
-  pub buffer-width-told : n < 13 → (r : ℕ) → r ≡ bits (buffer n) → accepted r ≡ bufferWidth n
+  pub buffer-width-told : n < 13 → (r : ℕ) → r ≡ bits (buffer n) → accepted r ≡ bufferWidthCall n
   buffer-width-told h r e = own-passes (ltb n 13) 6 (bits (buffer n)) (lt-ltb n 13 h) r e
 
 module _ (t : Table) (n : ℕ) (h : accepted (tt {0}) ≡ judged t (n ∷ n ∷ [])) where
@@ -56,15 +56,15 @@ module _ (t : Table) (n : ℕ) (h : accepted (tt {0}) ≡ judged t (n ∷ n ∷ 
         ∙ once-pass t n (shaped (ltb (asWord (typeAt t n)) 32)) (asWord (typeAt t n)) h
 
   module _ (k : ℕ) where
-    pub no-buffer : 13 ≤ k → refused 6 0 ≡ isBuffer8 t n k
+    pub no-buffer : 13 ≤ k → refused 6 0 ≡ isBuffer8Call t n k
     no-buffer l =
         own-holds (ltb k 13) 6 (same (typeAt t n) (buffer k)) (le-ltb k 13 l)
         ∙ once-pass t n (ranged (ltb k 13)) (same (typeAt t n) (buffer k)) h
 
-    pub buffer-told : k < 13 → (r : Bool) → r ≡ same (typeAt t n) (buffer k) → accepted r ≡ isBuffer8 t n k
+    pub buffer-told : k < 13 → (r : Bool) → r ≡ same (typeAt t n) (buffer k) → accepted r ≡ isBuffer8Call t n k
     buffer-told l r e =
         own-passes (ltb k 13) 6 (same (typeAt t n) (buffer k)) (lt-ltb k 13 l) r e
         ∙ once-pass t n (ranged (ltb k 13)) (same (typeAt t n) (buffer k)) h
 
-  pub ctx8-told : (r : Bool) → r ≡ same (typeAt t n) ctx8 → accepted r ≡ isCtx8 t n
+  pub ctx8-told : (r : Bool) → r ≡ same (typeAt t n) ctx8 → accepted r ≡ isCtx8Call t n
   ctx8-told r e = once-answered t n (same (typeAt t n) ctx8) r h e

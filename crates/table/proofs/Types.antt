@@ -23,7 +23,7 @@ use borrow.Author.Tests.{eq-eqb, ne-eqb}
 use Rattle.meaning.specs.Types.{Ty, same, width, isUnit, isSum, isProd}
 use Rattle.meaning.specs.Tables.{Columns, Table, NodeFacts, kind, left, right, node, tyAt, classOf, factsAt}
 use Rattle.meaning.specs.Ladder.{accepted, ladder, typeAt, shaped}
-use Rattle.meaning.specs.TypeCalls.{asks, factsOf, sameType, isUnitCall, isEmptyCall, sidesOf, typeAsSum, typeAsProduct, padLeftCall, padRightCall}
+use Rattle.meaning.specs.TypeCalls.{asks, factsOfCall, sameTypeCall, isUnitCall, isEmptyCall, sidesAt, typeAsSumCall, typeAsProductCall, padLeftCall, padRightCall}
 use Rattle.meaning.specs.Checked.{Sound}
 use Rattle.meaning.proofs.Choices.{either}
 use Rattle.meaning.proofs.Types.{same-eq, eq-same}
@@ -119,7 +119,7 @@ module _ (t : Table) (s : Sound t) (n : ℕ) (h : n < t .count) where
   product-kind = is-product (kind (t .columns) n) l-side r-side (sound-kind t s n h) ∙ ap isProd (sym (sound-tree t s n h))
 
 -- The questions about one node, from its facts.
-module _ (t : Table) (n : ℕ) {f : NodeFacts} (h : accepted f ≡ factsOf t n) where
+module _ (t : Table) (n : ℕ) {f : NodeFacts} (h : accepted f ≡ factsOfCall t n) where
   pub unit-told : accepted (eqb (f .kindOf) 0) ≡ isUnitCall t n
   unit-told =
       let k = told t n h in
@@ -132,21 +132,21 @@ module _ (t : Table) (n : ℕ) {f : NodeFacts} (h : accepted f ≡ factsOf t n) 
 
   -- The sides, if the test of the kind is right.
   sides-told : (k : ℕ) (right-shape : Bool) → eqb (kind (t .columns) n) k ≡ right-shape
-      → ladder (shaped (eqb (f .kindOf) k)) (record { leftNode = f .leftNode; rightNode = f .rightNode }) ≡ asks t (n ∷ []) (shaped right-shape) (sidesOf t n)
+      → ladder (shaped (eqb (f .kindOf) k)) (record { leftNode = f .leftNode; rightNode = f .rightNode }) ≡ asks t (n ∷ []) (shaped right-shape) (sidesAt t n)
   sides-told k right-shape e =
       ap (λ g. ladder (shaped (eqb (g .kindOf) k)) (record { leftNode = g .leftNode; rightNode = g .rightNode })) (told t n h .facts-are)
-      ∙ ap (λ b. ladder (shaped b) (sidesOf t n)) e
-      ∙ told-pass t n h (shaped right-shape) (sidesOf t n)
+      ∙ ap (λ b. ladder (shaped b) (sidesAt t n)) e
+      ∙ told-pass t n h (shaped right-shape) (sidesAt t n)
 
-  pub sum-told : ladder (shaped (eqb (f .kindOf) 1)) (record { leftNode = f .leftNode; rightNode = f .rightNode }) ≡ typeAsSum t n
+  pub sum-told : ladder (shaped (eqb (f .kindOf) 1)) (record { leftNode = f .leftNode; rightNode = f .rightNode }) ≡ typeAsSumCall t n
   sum-told = let k = told t n h in sides-told 1 (isSum (typeAt t n)) (sum-kind t (k .is-sound) n (k .n-in))
 
-  pub product-told : ladder (shaped (eqb (f .kindOf) 2)) (record { leftNode = f .leftNode; rightNode = f .rightNode }) ≡ typeAsProduct t n
+  pub product-told : ladder (shaped (eqb (f .kindOf) 2)) (record { leftNode = f .leftNode; rightNode = f .rightNode }) ≡ typeAsProductCall t n
   product-told = let k = told t n h in sides-told 2 (isProd (typeAt t n)) (product-kind t (k .is-sound) n (k .n-in))
 
 -- The questions about two nodes, from their classes and widths as they were read.
 module _ (t : Table) (a b : ℕ) (h : accepted (tt {0}) ≡ judged t (a ∷ b ∷ [])) {x y : ℕ} where
-  pub same-told : x ≡ getD (t .facts .classes) a 0 → y ≡ getD (t .facts .classes) b 0 → accepted (eqb x y) ≡ sameType t a b
+  pub same-told : x ≡ getD (t .facts .classes) a 0 → y ≡ getD (t .facts .classes) b 0 → accepted (eqb x y) ≡ sameTypeCall t a b
   same-told e f =
       let k = named t a b h in
       answered t (a ∷ b ∷ []) (same (typeAt t a) (typeAt t b)) (eqb x y) h

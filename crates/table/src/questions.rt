@@ -2,11 +2,10 @@
 use answers::Count;
 use answers::Done;
 use answers::Facts;
+use answers::FactsAnswer;
 use answers::Flag;
-use answers::Refusal;
-use answers::Sided;
 use answers::Sides;
-use answers::Told;
+use answers::SidesAnswer;
 ghost use mathlib.Core.Path.{_≡_};
 ghost use mathlib.Core.List.{[], _∷_};
 ghost use Prim.Native.Nat.{_-_, max};
@@ -35,16 +34,10 @@ pub(crate) fn present(
         return Done::Refused(r);
     }
     if count <= a {
-        return Done::Refused(Refusal {
-            number: 2,
-            place: 0,
-        });
+        return Done::Refused(answers::NO_SUCH_NODE);
     }
     if count <= b {
-        return Done::Refused(Refusal {
-            number: 2,
-            place: 0,
-        });
+        return Done::Refused(answers::NO_SUCH_NODE);
     }
     Done::Accepted
 }
@@ -57,16 +50,16 @@ pub fn facts_of(
     groups: &[u8],
     count: usize,
     node: usize,
-) -> Told
+) -> FactsAnswer
     ensures { λ r.
-        ⌜ factsOf r ≡ calls.factsOf
+        ⌜ factsOf r ≡ calls.factsOfCall
         (table (now (kinds .entry)) (now (lefts .entry)) (now (rights .entry)) (now (groups .entry)) count) node ⌝ }
 {
     let judged = present(kinds, lefts, rights, groups, count, node, node);
     if let Done::Refused(r) = judged {
-        return Told::Refused(r);
+        return FactsAnswer::Refused(r);
     }
-    Told::Are(Facts {
+    FactsAnswer::Are(Facts {
         width: groups::width_at(groups, node),
         size: groups::size_at(groups, node),
         padded: groups::padded_at(groups, node) == 1,
@@ -88,7 +81,7 @@ pub fn same_type(
     b: usize,
 ) -> Flag
     ensures { λ r.
-        ⌜ flagOf r ≡ calls.sameType
+        ⌜ flagOf r ≡ calls.sameTypeCall
         (table (now (kinds .entry)) (now (lefts .entry)) (now (rights .entry)) (now (groups .entry)) count) a b ⌝ }
 {
     let judged = present(kinds, lefts, rights, groups, count, a, b);
@@ -112,8 +105,8 @@ pub fn is_unit(
         (table (now (kinds .entry)) (now (lefts .entry)) (now (rights .entry)) (now (groups .entry)) count) node ⌝ }
 {
     match facts_of(kinds, lefts, rights, groups, count, node) {
-        Told::Refused(r) => Flag::Refused(r),
-        Told::Are(f) => Flag::Is(f.kind == 0),
+        FactsAnswer::Refused(r) => Flag::Refused(r),
+        FactsAnswer::Are(f) => Flag::Is(f.kind == 0),
     }
 }
 
@@ -131,23 +124,20 @@ pub fn is_empty(
         (table (now (kinds .entry)) (now (lefts .entry)) (now (rights .entry)) (now (groups .entry)) count) node ⌝ }
 {
     match facts_of(kinds, lefts, rights, groups, count, node) {
-        Told::Refused(r) => Flag::Refused(r),
-        Told::Are(f) => Flag::Is(f.width == 0),
+        FactsAnswer::Refused(r) => Flag::Refused(r),
+        FactsAnswer::Are(f) => Flag::Is(f.width == 0),
     }
 }
 
 // The sides of a node of a kind; any other node has the wrong shape.
-fn sides_if(facts: Facts, kind: u8) -> Sided
+fn sides_if(facts: Facts, kind: u8) -> SidesAnswer
     ensures { λ r.
         ⌜ sidesOf r ≡ rungs.ladder (rungs.shaped (eqb (facts .kind) kind)) (record { leftNode = facts .left; rightNode = facts .right }) ⌝ }
 {
     if facts.kind != kind {
-        return Sided::Refused(Refusal {
-            number: 7,
-            place: 0,
-        });
+        return SidesAnswer::Refused(answers::WRONG_SHAPE);
     }
-    Sided::Are(Sides {
+    SidesAnswer::Are(Sides {
         left: facts.left,
         right: facts.right,
     })
@@ -161,14 +151,14 @@ pub fn as_sum(
     groups: &[u8],
     count: usize,
     node: usize,
-) -> Sided
+) -> SidesAnswer
     ensures { λ r.
-        ⌜ sidesOf r ≡ calls.typeAsSum
+        ⌜ sidesOf r ≡ calls.typeAsSumCall
         (table (now (kinds .entry)) (now (lefts .entry)) (now (rights .entry)) (now (groups .entry)) count) node ⌝ }
 {
     match facts_of(kinds, lefts, rights, groups, count, node) {
-        Told::Refused(r) => Sided::Refused(r),
-        Told::Are(f) => sides_if(f, 1),
+        FactsAnswer::Refused(r) => SidesAnswer::Refused(r),
+        FactsAnswer::Are(f) => sides_if(f, 1),
     }
 }
 
@@ -180,14 +170,14 @@ pub fn as_product(
     groups: &[u8],
     count: usize,
     node: usize,
-) -> Sided
+) -> SidesAnswer
     ensures { λ r.
-        ⌜ sidesOf r ≡ calls.typeAsProduct
+        ⌜ sidesOf r ≡ calls.typeAsProductCall
         (table (now (kinds .entry)) (now (lefts .entry)) (now (rights .entry)) (now (groups .entry)) count) node ⌝ }
 {
     match facts_of(kinds, lefts, rights, groups, count, node) {
-        Told::Refused(r) => Sided::Refused(r),
-        Told::Are(f) => sides_if(f, 2),
+        FactsAnswer::Refused(r) => SidesAnswer::Refused(r),
+        FactsAnswer::Are(f) => sides_if(f, 2),
     }
 }
 

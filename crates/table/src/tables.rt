@@ -7,13 +7,13 @@ use files::Judged;
 ghost use mathlib.Core.Path.{_≡_};
 ghost use Prim.Native.Nat.{_≤_};
 ghost use Rattle.meaning.specs.Tables.{table, columns, columnsReach, groupsReach};
-ghost use Rattle.meaning.specs.TypeCalls.{checkTable, fillFacts, fillFactsOut, readTable, readTableColumns, readTableGroups};
+ghost use Rattle.meaning.specs.TypeCalls.{checkTableCall, fillFactsCall, fillFactsOut, readTableCall, readTableColumnsOut, readTableGroupsOut};
 ghost use Rattle.answers.specs.Verdicts.{doneOf, countOf};
 
 // The table is sound.
 pub fn check_table(kinds: &[u8], lefts: &[u16], rights: &[u16], groups: &[u8], count: usize) -> Done
     ensures { λ r.
-        ⌜ doneOf r ≡ checkTable
+        ⌜ doneOf r ≡ checkTableCall
         (table (now (kinds .entry)) (now (lefts .entry)) (now (rights .entry)) (now (groups .entry)) count) ⌝ }
 {
     gate::sound(kinds, lefts, rights, groups, count)
@@ -43,40 +43,28 @@ fn groups_reach(groups: &[u8], count: usize) -> bool
 // Whether facts can be filled in: the entries are right, and there is room.
 fn may_fill(kinds: &[u8], lefts: &[u16], rights: &[u16], count: usize, groups: &[u8]) -> Done
     ensures { λ r.
-        ⌜ doneOf r ≡ fillFacts
+        ⌜ doneOf r ≡ fillFactsCall
         (columns (now (kinds .entry)) (now (lefts .entry)) (now (rights .entry))) count
         (now (groups .entry)) ⌝ }
 {
     if count < 1 {
-        return Done::Refused(Refusal {
-            number: 1,
-            place: 0,
-        });
+        return Done::Refused(answers::UNSOUND);
     }
     if 1024 < count {
-        return Done::Refused(Refusal {
-            number: 1,
-            place: 0,
-        });
+        return Done::Refused(answers::UNSOUND);
     }
     if !columns_reach(kinds, lefts, rights, count) {
-        return Done::Refused(Refusal {
-            number: 1,
-            place: 0,
-        });
+        return Done::Refused(answers::UNSOUND);
     }
     let bad = facts::first_bad_entry(kinds, lefts, rights, count);
     if bad < count {
         return Done::Refused(Refusal {
-            number: 1,
+            number: answers::UNSOUND_NUMBER,
             place: bad,
         });
     }
     if !groups_reach(groups, count) {
-        return Done::Refused(Refusal {
-            number: 9,
-            place: 0,
-        });
+        return Done::Refused(answers::NO_ROOM);
     }
     Done::Accepted
 }
@@ -90,7 +78,7 @@ pub fn fill_facts(
     groups: &mut [u8],
 ) -> Done
     ensures { λ r.
-        ⌜ doneOf r ≡ fillFacts
+        ⌜ doneOf r ≡ fillFactsCall
         (columns (now (kinds .entry)) (now (lefts .entry)) (now (rights .entry))) count
         (now (groups .entry)) ⌝ }
     ensures { λ _.
@@ -109,27 +97,21 @@ pub fn fill_facts(
 // Whether a table can be read: the file is sound, and there is room. The count of its nodes.
 fn may_read(file: &[u8], kinds: &[u8], lefts: &[u16], rights: &[u16], groups: &[u8]) -> Count
     ensures { λ r.
-        ⌜ countOf r ≡ readTable (now (file .entry))
+        ⌜ countOf r ≡ readTableCall (now (file .entry))
         (columns (now (kinds .entry)) (now (lefts .entry)) (now (rights .entry)))
         (now (groups .entry)) ⌝ }
 {
     match files::judge_file(file) {
         Judged::Fault(place) => Count::Refused(Refusal {
-            number: 1,
+            number: answers::UNSOUND_NUMBER,
             place: place,
         }),
         Judged::Sound(count) => {
             if !columns_reach(kinds, lefts, rights, count) {
-                return Count::Refused(Refusal {
-                    number: 9,
-                    place: 0,
-                });
+                return Count::Refused(answers::NO_ROOM);
             }
             if !groups_reach(groups, count) {
-                return Count::Refused(Refusal {
-                    number: 9,
-                    place: 0,
-                });
+                return Count::Refused(answers::NO_ROOM);
             }
             Count::Is(count)
         }
@@ -145,23 +127,23 @@ pub fn read_table(
     groups: &mut [u8],
 ) -> Count
     ensures { λ r.
-        ⌜ countOf r ≡ readTable (now (file .entry))
+        ⌜ countOf r ≡ readTableCall (now (file .entry))
         (columns (now (kinds .entry)) (now (lefts .entry)) (now (rights .entry)))
         (now (groups .entry)) ⌝ }
     ensures { λ _.
-        ⌜ now (kinds .exit) ≡ readTableColumns (now (file .entry))
+        ⌜ now (kinds .exit) ≡ readTableColumnsOut (now (file .entry))
         (columns (now (kinds .entry)) (now (lefts .entry)) (now (rights .entry)))
         (now (groups .entry)) .kinds ⌝ }
     ensures { λ _.
-        ⌜ now (lefts .exit) ≡ readTableColumns (now (file .entry))
+        ⌜ now (lefts .exit) ≡ readTableColumnsOut (now (file .entry))
         (columns (now (kinds .entry)) (now (lefts .entry)) (now (rights .entry)))
         (now (groups .entry)) .lefts ⌝ }
     ensures { λ _.
-        ⌜ now (rights .exit) ≡ readTableColumns (now (file .entry))
+        ⌜ now (rights .exit) ≡ readTableColumnsOut (now (file .entry))
         (columns (now (kinds .entry)) (now (lefts .entry)) (now (rights .entry)))
         (now (groups .entry)) .rights ⌝ }
     ensures { λ _.
-        ⌜ now (groups .exit) ≡ readTableGroups (now (file .entry))
+        ⌜ now (groups .exit) ≡ readTableGroupsOut (now (file .entry))
         (columns (now (kinds .entry)) (now (lefts .entry)) (now (rights .entry)))
         (now (groups .entry)) ⌝ }
 {

@@ -3,7 +3,6 @@ use crate::questions::present;
 use answers::Count;
 use answers::Done;
 use answers::Flag;
-use answers::Refusal;
 ghost use mathlib.Core.Path.{_≡_};
 ghost use Rattle.meaning.specs.Tables.{table};
 ghost use Rattle.meaning.specs.TypeCalls as calls;
@@ -28,36 +27,27 @@ pub fn as_word(
     }
     let n = shapes::word_of(kinds, lefts, rights, groups, count, node);
     if 32 <= n {
-        return Count::Refused(Refusal {
-            number: 7,
-            place: 0,
-        });
+        return Count::Refused(answers::WRONG_SHAPE);
     }
     Count::Is(n)
 }
 
 // The width of word type n.
 pub fn word_width(n: usize) -> Count
-    ensures { λ r. ⌜ countOf r ≡ calls.wordWidth n ⌝ }
+    ensures { λ r. ⌜ countOf r ≡ calls.wordWidthCall n ⌝ }
 {
     if 32 <= n {
-        return Count::Refused(Refusal {
-            number: 6,
-            place: 0,
-        });
+        return Count::Refused(answers::OUT_OF_RANGE);
     }
     Count::Is(shapes::word_width(n) as usize)
 }
 
 // The width of buffer type n.
 pub fn buffer_width(n: usize) -> Count
-    ensures { λ r. ⌜ countOf r ≡ calls.bufferWidth n ⌝ }
+    ensures { λ r. ⌜ countOf r ≡ calls.bufferWidthCall n ⌝ }
 {
     if 13 <= n {
-        return Count::Refused(Refusal {
-            number: 6,
-            place: 0,
-        });
+        return Count::Refused(answers::OUT_OF_RANGE);
     }
     Count::Is(shapes::buffer_width(n) as usize)
 }
@@ -73,7 +63,7 @@ pub fn is_buffer8(
     n: usize,
 ) -> Flag
     ensures { λ r.
-        ⌜ flagOf r ≡ calls.isBuffer8
+        ⌜ flagOf r ≡ calls.isBuffer8Call
         (table (now (kinds .entry)) (now (lefts .entry)) (now (rights .entry)) (now (groups .entry)) count) node n ⌝ }
 {
     let judged = present(kinds, lefts, rights, groups, count, node, node);
@@ -81,10 +71,7 @@ pub fn is_buffer8(
         return Flag::Refused(r);
     }
     if 13 <= n {
-        return Flag::Refused(Refusal {
-            number: 6,
-            place: 0,
-        });
+        return Flag::Refused(answers::OUT_OF_RANGE);
     }
     Flag::Is(shapes::is_buffer(kinds, lefts, rights, groups, count, node, n))
 }
@@ -99,7 +86,7 @@ pub fn is_ctx8(
     node: usize,
 ) -> Flag
     ensures { λ r.
-        ⌜ flagOf r ≡ calls.isCtx8
+        ⌜ flagOf r ≡ calls.isCtx8Call
         (table (now (kinds .entry)) (now (lefts .entry)) (now (rights .entry)) (now (groups .entry)) count) node ⌝ }
 {
     let judged = present(kinds, lefts, rights, groups, count, node, node);

@@ -11,7 +11,7 @@ use Rattle.meaning.specs.Types.{Ty, same}
 use Rattle.meaning.specs.Tables.{Table}
 use Rattle.meaning.specs.Records.{sameBits}
 use Rattle.meaning.specs.Ladder.{Answer, accepted, ladder, Record, typeOf, recordBits}
-use Rattle.meaning.specs.RecordCalls.{handed, equal}
+use Rattle.meaning.specs.RecordCalls.{handed, equalCall}
 use Rattle.meaning.proofs.Tests.{and-left, and-right, and-both}
 use Rattle.meaning.proofs.Types.{same-eq, eq-same}
 use Rattle.meaning.proofs.Records.{same-bits, bits-same}
@@ -55,25 +55,25 @@ module _ (t : Table) where
       and-both (same (typeOf t a) (typeOf t b)) (sameBits (recordBits t a) (recordBits t b)) (eq-same (typeOf t a) (typeOf t b) (s .types))
       (equal-bits (recordBits t a) (recordBits t b) (s .bits-are))
 
-  pub equal-is : (a b : Record) → Fine t a → Fine t b → equal t a b ≡ accepted (alikeAt t a b)
+  pub equal-is : (a b : Record) → Fine t a → Fine t b → equalCall t a b ≡ accepted (alikeAt t a b)
   equal-is a b f g = two-pass t a b (alikeAt t a b) f g
 
-  pub equal-means : (a b : Record) → equal t a b ≡ accepted true → Same a b
+  pub equal-means : (a b : Record) → equalCall t a b ≡ accepted true → Same a b
   equal-means a b h = alike-same a b (two-fine t a b (alikeAt t a b) true h .2)
 
-  pub same-equal : (a b : Record) → Fine t a → Fine t b → Same a b → equal t a b ≡ accepted true
+  pub same-equal : (a b : Record) → Fine t a → Fine t b → Same a b → equalCall t a b ≡ accepted true
   same-equal a b f g s = equal-is a b f g ∙ ap accepted (same-alike a b s)
 
-  pub equal-reflexive : (a : Record) → Fine t a → equal t a a ≡ accepted true
+  pub equal-reflexive : (a : Record) → Fine t a → equalCall t a a ≡ accepted true
   equal-reflexive a f = same-equal a a f f (record { types = refl; bits-are = refl })
 
-  pub equal-symmetric : (a b : Record) → equal t a b ≡ equal t b a
+  pub equal-symmetric : (a b : Record) → equalCall t a b ≡ equalCall t b a
   equal-symmetric a b =
       swapped t a b (alikeAt t a b)
       ∙ ap (λ (x : Bool). ladder (handed t (b ∷ a ∷ []) []) x)
       (ap₂ _&&_ (same-back (typeOf t a) (typeOf t b)) (bits-back (recordBits t a) (recordBits t b)))
 
-  pub equal-transitive : (a b c : Record) → equal t a b ≡ accepted true → equal t b c ≡ accepted true → equal t a c ≡ accepted true
+  pub equal-transitive : (a b c : Record) → equalCall t a b ≡ accepted true → equalCall t b c ≡ accepted true → equalCall t a c ≡ accepted true
   equal-transitive a b c h k =
       let s = equal-means a b h in
       let r = equal-means b c k in

@@ -17,7 +17,7 @@ use Rattle.meaning.specs.Tables.{Table}
 use Rattle.meaning.specs.Bits.{written}
 use Rattle.meaning.specs.Records.{tag, sameBits, orderBits}
 use Rattle.meaning.specs.Ladder.{Answer, Rung, rung, ladder, kept, Record, record-of, typeAt, recordBits, named, shaped, makes, made}
-use Rattle.meaning.specs.RecordCalls.{Spot, asLeft, asRight, asProduct, equal, compareCall, paddedLen, orderThen, orderTypes}
+use Rattle.meaning.specs.RecordCalls.{Spot, asLeftCall, asRightCall, asProductCall, equalCall, compareCall, paddedLenCall, orderThen, orderTypes}
 use Rattle.meaning.specs.RecordCalls.{leftCall, leftOut, rightCall, rightOut, someCall, someOut, productCall, productOut}
 use Rattle.value.specs.Sides.{padding, sideNode, says, wrapped}
 
@@ -38,13 +38,13 @@ module _ (t : Table) (o n : ℕ) (s u : List ℕ) (g : Agree t o n s u) where
       ladder (five [] k ++ (rung (ltb top (o + bits (typeAt t n))) 5 0 ∷ shaped (isSum (typeAt t n) && says b (tag v))))
       (record { offset = o + (1 + padding b (typeAt t n)); node = sideNode b (t .columns) n })
 
-  pub as-left-own : asLeft t (record-of s o n) ≡ asLeft t (record-of u o n)
+  pub as-left-own : asLeftCall t (record-of s o n) ≡ asLeftCall t (record-of u o n)
   as-left-own = λ i. view false (g .lengths i) (g .own i)
 
-  pub as-right-own : asRight t (record-of s o n) ≡ asRight t (record-of u o n)
+  pub as-right-own : asRightCall t (record-of s o n) ≡ asRightCall t (record-of u o n)
   as-right-own = λ i. view true (g .lengths i) (g .own i)
 
-  pub as-product-own : asProduct t (record-of s o n) ≡ asProduct t (record-of u o n)
+  pub as-product-own : asProductCall t (record-of s o n) ≡ asProductCall t (record-of u o n)
   as-product-own =
       λ i. ladder (five [] (g .lengths i) ++ (rung (ltb top (o + bits (typeAt t n))) 5 0 ∷ shaped (isProd (typeAt t n))))
       (record {
@@ -52,7 +52,7 @@ module _ (t : Table) (o n : ℕ) (s u : List ℕ) (g : Agree t o n s u) where
         second = record { offset = o + bits (leftSide (typeAt t n)); node = sideNode true (t .columns) n };
       })
 
-  pub padded-len-own : paddedLen t (record-of s o n) ≡ paddedLen t (record-of u o n)
+  pub padded-len-own : paddedLenCall t (record-of s o n) ≡ paddedLenCall t (record-of u o n)
   padded-len-own = λ i. ladder (five [] (g .lengths i)) (bits (typeAt t n))
 
   -- A constructor of one payload: answer and output, by its shape, its tag, the number of bytes and the bits.
@@ -89,7 +89,7 @@ module _ (t : Table) (o n : ℕ) (s u : List ℕ) (g : Agree t o n s u) (p m : �
   pair-five ns k l =
       named t (n ∷ m ∷ ns) ++ (rung (ltb (8 * k) (o + bits (typeAt t n)) || (ltb (8 * l) (p + bits (typeAt t m)) || false)) 5 0 ∷ [])
 
-  pub equal-own : equal t (record-of s o n) (record-of r p m) ≡ equal t (record-of u o n) (record-of w p m)
+  pub equal-own : equalCall t (record-of s o n) (record-of r p m) ≡ equalCall t (record-of u o n) (record-of w p m)
   equal-own = λ i. ladder (pair-five [] (g .lengths i) (h .lengths i)) (same (typeAt t n) (typeAt t m) && sameBits (g .own i) (h .own i))
 
   pub compare-own : compareCall t (record-of s o n) (record-of r p m) ≡ compareCall t (record-of u o n) (record-of w p m)

@@ -18,7 +18,7 @@ use Rattle.meaning.specs.Tables.{Table, left, right}
 use Rattle.meaning.specs.Bits.{bitsOf, zeros, room, written}
 use Rattle.meaning.specs.Records.{tag}
 use Rattle.meaning.specs.Ladder.{Answer, accepted, ladder, Record, record-of, typeAt, typeOf, recordBits}
-use Rattle.meaning.specs.RecordCalls.{Spot, Spots, handed, asLeft, asRight, asProduct, productBits}
+use Rattle.meaning.specs.RecordCalls.{Spot, Spots, handed, asLeftCall, asRightCall, asProductCall, productBits}
 use Rattle.meaning.specs.RecordCalls.{leftCall, leftOut, rightCall, rightOut, someCall, someOut, productCall, productOut}
 use Rattle.meaning.specs.Checked.{Sound}
 use Rattle.meaning.proofs.Ladders.{ladder-pass}
@@ -107,23 +107,23 @@ module _ (t : Table) (p : Record) (c : ℕ) (out : List ℕ) (w : ℕ) where
   abbrev result : List ℕ → Record
   result o = record-of o 0 c
 
-  pub left-again : leftCall t p c out ≡ accepted w → Again t p (result (leftOut t p c out)) (asLeft t (result (leftOut t p c out)))
+  pub left-again : leftCall t p c out ≡ accepted w → Again t p (result (leftOut t p c out)) (asLeftCall t (result (leftOut t p c out)))
   left-again h =
       let a = accepts (handed t (p ∷ []) (c ∷ [])) (wrapFits false t p c) (wrapBits false t p c) out w h in
-      subst (λ (o : List ℕ). Again t p (result o) (asLeft t (result o))) (sym (a .output-is))
+      subst (λ (o : List ℕ). Again t p (result o) (asLeftCall t (result o))) (sym (a .output-is))
       (wrap-again false t p c out (a .first-pass) (a .shape-right) (a .room-enough))
 
-  pub right-again : rightCall t p c out ≡ accepted w → Again t p (result (rightOut t p c out)) (asRight t (result (rightOut t p c out)))
+  pub right-again : rightCall t p c out ≡ accepted w → Again t p (result (rightOut t p c out)) (asRightCall t (result (rightOut t p c out)))
   right-again h =
       let a = accepts (handed t (p ∷ []) (c ∷ [])) (wrapFits true t p c) (wrapBits true t p c) out w h in
-      subst (λ (o : List ℕ). Again t p (result o) (asRight t (result o))) (sym (a .output-is))
+      subst (λ (o : List ℕ). Again t p (result o) (asRightCall t (result o))) (sym (a .output-is))
       (wrap-again true t p c out (a .first-pass) (a .shape-right) (a .room-enough))
 
-  pub some-again : someCall t p c out ≡ accepted w → Again t p (result (someOut t p c out)) (asRight t (result (someOut t p c out)))
+  pub some-again : someCall t p c out ≡ accepted w → Again t p (result (someOut t p c out)) (asRightCall t (result (someOut t p c out)))
   some-again h =
       let side = same (rightSide (typeAt t c)) (typeOf t p) in
       let a = accepts (handed t (p ∷ []) (c ∷ [])) (optionFits t c && side) (wrapBits true t p c) out w h in
-      subst (λ (o : List ℕ). Again t p (result o) (asRight t (result o))) (sym (a .output-is))
+      subst (λ (o : List ℕ). Again t p (result o) (asRightCall t (result o))) (sym (a .output-is))
       (wrap-again true t p c out (a .first-pass) (some-fits t p c (and-left (optionFits t c) side (a .shape-right)) ∙ a .shape-right)
       (a .room-enough))
 
@@ -141,7 +141,7 @@ pub record AgainBoth (t : Table) (a b m : Record) (answer : Answer Spots) : Type
 join-again : (t : Table) (a b : Record) (c : ℕ) (out : List ℕ) → ladder (handed t (a ∷ b ∷ []) (c ∷ [])) (tt {0}) ≡ accepted (tt {0})
     → joinFits t a b c ≡ true
     → room (length (productBits t a b)) ≤ length out
-    → AgainBoth t a b (record-of (written (productBits t a b) out) 0 c) (asProduct t (record-of (written (productBits t a b) out) 0 c))
+    → AgainBoth t a b (record-of (written (productBits t a b) out) 0 c) (asProductCall t (record-of (written (productBits t a b) out) 0 c))
 join-again t a b c out h k l =
     let x = typeAt t c in
     let v = productBits t a b in
@@ -181,8 +181,8 @@ join-again t a b c out h k l =
     }
 
 pub product-again : (t : Table) (a b : Record) (c : ℕ) (out : List ℕ) (w : ℕ) → productCall t a b c out ≡ accepted w
-    → AgainBoth t a b (record-of (productOut t a b c out) 0 c) (asProduct t (record-of (productOut t a b c out) 0 c))
+    → AgainBoth t a b (record-of (productOut t a b c out) 0 c) (asProductCall t (record-of (productOut t a b c out) 0 c))
 product-again t a b c out w h =
     let k = accepts (handed t (a ∷ b ∷ []) (c ∷ [])) (joinFits t a b c) (productBits t a b) out w h in
-    subst (λ (o : List ℕ). AgainBoth t a b (record-of o 0 c) (asProduct t (record-of o 0 c))) (sym (k .output-is))
+    subst (λ (o : List ℕ). AgainBoth t a b (record-of o 0 c) (asProductCall t (record-of o 0 c))) (sym (k .output-is))
     (join-again t a b c out (k .first-pass) (k .shape-right) (k .room-enough))

@@ -19,7 +19,7 @@ use Rattle.meaning.specs.Tables.{Table, kind, left, right, node, tyAt}
 use Rattle.meaning.specs.Bits.{bitsOf}
 use Rattle.meaning.specs.Records.{tag, leftOf, rightOf, firstOf, secondOf}
 use Rattle.meaning.specs.Ladder.{Answer, refused, accepted, Rung, rung, ladder, Record, record-of, typeAt, typeOf, recordBits, shaped}
-use Rattle.meaning.specs.RecordCalls.{Spot, Spots, handed, addressed, asLeft, asRight, asProduct}
+use Rattle.meaning.specs.RecordCalls.{Spot, Spots, handed, addressed, asLeftCall, asRightCall, asProductCall}
 use Rattle.meaning.specs.Checked.{Sound}
 use Rattle.meaning.proofs.Ladders.{ladder-clear}
 use Rattle.meaning.proofs.Tests.{and-left, and-right}
@@ -90,11 +90,11 @@ payload-view g t r s h =
     (payload-shows t r (passes-fine t r (p .0))
     (and-left (isSum (typeOf t r)) (says g (tag (recordBits t r))) (not-false fits (z .0))) g)
 
-pub left-view : (t : Table) (r : Record) (s : Spot) → asLeft t r ≡ accepted s
+pub left-view : (t : Table) (r : Record) (s : Spot) → asLeftCall t r ≡ accepted s
     → Shows t r s (leftSide (typeOf t r)) (leftOf (leftSide (typeOf t r)) (rightSide (typeOf t r)) (recordBits t r))
 left-view = payload-view false
 
-pub right-view : (t : Table) (r : Record) (s : Spot) → asRight t r ≡ accepted s
+pub right-view : (t : Table) (r : Record) (s : Spot) → asRightCall t r ≡ accepted s
     → Shows t r s (rightSide (typeOf t r)) (rightOf (leftSide (typeOf t r)) (rightSide (typeOf t r)) (recordBits t r))
 right-view = payload-view true
 
@@ -135,7 +135,7 @@ parts-show t r f e =
           };
     }
 
-pub product-view : (t : Table) (r : Record) (s : Spots) → asProduct t r ≡ accepted s → ShowsBoth t r s
+pub product-view : (t : Table) (r : Record) (s : Spots) → asProductCall t r ≡ accepted s → ShowsBoth t r s
 unfolding ladder
 product-view t r s h =
     let x = partsSpots t r in

@@ -19,7 +19,7 @@ use Rattle.meaning.specs.Types.{bits}
 use Rattle.meaning.specs.Tables.{Table, classOf}
 use Rattle.meaning.specs.Records.{orderBit, orderBits}
 use Rattle.meaning.specs.Ladder.{Answer, refused, accepted, Rung, rung, ladder, Record, typeOf, recordBits}
-use Rattle.meaning.specs.RecordCalls.{handed, equal, orderThen, compareCall}
+use Rattle.meaning.specs.RecordCalls.{handed, equalCall, orderThen, compareCall}
 use Rattle.meaning.proofs.Trees.{tree-class, class-trees}
 use Rattle.value.specs.Sides.{alikeAt, orderedAt}
 use Rattle.value.proofs.Equality.{Same, equal-means, same-equal}
@@ -164,7 +164,7 @@ module _ (t : Table) where
   same-length a b f g e =
       own-length t a (fine-held t a f) ∙ ap bits (class-trees (t .columns) (a .node) (b .node) e) ∙ sym (own-length t b (fine-held t b g))
 
-  pub compare-equal : (a b : Record) → compareCall t a b ≡ accepted Ordering·eq → equal t a b ≡ accepted true
+  pub compare-equal : (a b : Record) → compareCall t a b ≡ accepted Ordering·eq → equalCall t a b ≡ accepted true
   compare-equal a b h =
       let k = two-fine t a b (orderedAt t a b) Ordering·eq h in
       let e = then-equal (class a) (class b) (orderBits (recordBits t a) (recordBits t b)) (k .2) in
@@ -174,7 +174,7 @@ module _ (t : Table) where
         bits-are = equal-bits (recordBits t a) (recordBits t b) (same-length a b (k .0) (k .1) (e .0)) (e .1);
       })
 
-  pub equal-compare : (a b : Record) → equal t a b ≡ accepted true → compareCall t a b ≡ accepted Ordering·eq
+  pub equal-compare : (a b : Record) → equalCall t a b ≡ accepted true → compareCall t a b ≡ accepted Ordering·eq
   equal-compare a b h =
       let k = two-fine t a b (alikeAt t a b) true h in
       let s = equal-means t a b h in
@@ -209,7 +209,7 @@ module _ (t : Table) where
   both-most Ordering·eq h k = refl
   both-most Ordering·gt h k = absurd (false≢true h)
 
-  pub at-most-antisymmetric : (a b : Record) → AtMost a b → AtMost b a → equal t a b ≡ accepted true
+  pub at-most-antisymmetric : (a b : Record) → AtMost a b → AtMost b a → equalCall t a b ≡ accepted true
   at-most-antisymmetric a b m n =
       let k = known a b m in
       let e = both-most (orderedAt t a b) (k .2) (ap isLe (sym (ordered-turned t a b)) ∙ known b a n .2) in

@@ -2,10 +2,10 @@
 // Assumes nothing of its input. Refuses with 1 to 5.
 use crate::reading::alike;
 use crate::reading::ordered;
-use answers::Compared;
 use answers::Count;
 use answers::Done;
 use answers::Flag;
+use answers::OrderAnswer;
 ghost use mathlib.Core.Path.{_≡_};
 ghost use Rattle.meaning.specs.Tables.{table};
 ghost use Rattle.meaning.specs.Ladder.{record-of};
@@ -26,7 +26,7 @@ pub fn equal(
     b_offset: usize,
     b_node: usize,
 ) -> Flag
-    ensures { λ r. ⌜ flagOf r ≡ calls.equal (table (now (kinds .entry)) (now (lefts .entry)) (now (rights .entry)) (now (groups .entry)) count) (record-of (now («a_bytes» .entry)) «a_offset» «a_node») (record-of (now («b_bytes» .entry)) «b_offset» «b_node») ⌝ }
+    ensures { λ r. ⌜ flagOf r ≡ calls.equalCall (table (now (kinds .entry)) (now (lefts .entry)) (now (rights .entry)) (now (groups .entry)) count) (record-of (now («a_bytes» .entry)) «a_offset» «a_node») (record-of (now («b_bytes» .entry)) «b_offset» «b_node») ⌝ }
 {
     let judged = gate::two(
         kinds,
@@ -72,7 +72,7 @@ pub fn compare(
     b_bytes: &[u8],
     b_offset: usize,
     b_node: usize,
-) -> Compared
+) -> OrderAnswer
     ensures { λ r. ⌜ orderOf r ≡ calls.compareCall (table (now (kinds .entry)) (now (lefts .entry)) (now (rights .entry)) (now (groups .entry)) count) (record-of (now («a_bytes» .entry)) «a_offset» «a_node») (record-of (now («b_bytes» .entry)) «b_offset» «b_node») ⌝ }
 {
     let judged = gate::two(
@@ -89,9 +89,9 @@ pub fn compare(
         b_node,
     );
     if let Done::Refused(r) = judged {
-        return Compared::Refused(r);
+        return OrderAnswer::Refused(r);
     }
-    Compared::Is(ordered(
+    OrderAnswer::Is(ordered(
         kinds,
         lefts,
         rights,
@@ -117,7 +117,7 @@ pub fn padded_len(
     offset: usize,
     node: usize,
 ) -> Count
-    ensures { λ r. ⌜ countOf r ≡ calls.paddedLen (table (now (kinds .entry)) (now (lefts .entry)) (now (rights .entry)) (now (groups .entry)) count) (record-of (now (bytes .entry)) offset node) ⌝ }
+    ensures { λ r. ⌜ countOf r ≡ calls.paddedLenCall (table (now (kinds .entry)) (now (lefts .entry)) (now (rights .entry)) (now (groups .entry)) count) (record-of (now (bytes .entry)) offset node) ⌝ }
 {
     let judged = gate::record(kinds, lefts, rights, groups, count, bytes, offset, node);
     if let Done::Refused(r) = judged {

@@ -7,7 +7,6 @@ use crate::making::join;
 use crate::making::wrap;
 use answers::Count;
 use answers::Done;
-use answers::Refusal;
 ghost use mathlib.Core.Path.{_≡_};
 ghost use Rattle.meaning.specs.Tables.{table};
 ghost use Rattle.meaning.specs.Ladder.{record-of};
@@ -34,10 +33,7 @@ pub fn unit(
     }
     let whole = nodes::node_at(kinds, lefts, rights, groups, count, result);
     if whole.kind != 0 {
-        return Count::Refused(Refusal {
-            number: 7,
-            place: 0,
-        });
+        return Count::Refused(answers::WRONG_SHAPE);
     }
     Count::Is(0)
 }

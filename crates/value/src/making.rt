@@ -4,7 +4,6 @@ use crate::writers::write_product;
 use crate::writers::write_sum;
 use crate::writers::write_zeros;
 use answers::Count;
-use answers::Refusal;
 use nodes::Node;
 ghost use mathlib.Core.Path.{_≡_};
 ghost use mathlib.Core.List.{[]};
@@ -94,10 +93,7 @@ pub(crate) fn blank(
     let whole = nodes::node_at(kinds, lefts, rights, groups, count, result);
     let width = whole.width as usize;
     if out.len() < bytes_for(width) {
-        return Count::Refused(Refusal {
-            number: 9,
-            place: 0,
-        });
+        return Count::Refused(answers::NO_ROOM);
     }
     write_zeros(out, width);
     Count::Is(width)
@@ -124,10 +120,7 @@ pub(crate) fn wrap(
 {
     let whole = nodes::node_at(kinds, lefts, rights, groups, count, result);
     if whole.kind != 1 {
-        return Count::Refused(Refusal {
-            number: 7,
-            place: 0,
-        });
+        return Count::Refused(answers::WRONG_SHAPE);
     }
     if !same_type(
         kinds,
@@ -138,17 +131,11 @@ pub(crate) fn wrap(
         side_of(whole, right),
         node,
     ) {
-        return Count::Refused(Refusal {
-            number: 7,
-            place: 0,
-        });
+        return Count::Refused(answers::WRONG_SHAPE);
     }
     let width = whole.width as usize;
     if out.len() < bytes_for(width) {
-        return Count::Refused(Refusal {
-            number: 9,
-            place: 0,
-        });
+        return Count::Refused(answers::NO_ROOM);
     }
     let given = nodes::node_at(kinds, lefts, rights, groups, count, node);
     let first = offset / 8;
@@ -187,29 +174,17 @@ pub(crate) fn join(
 {
     let whole = nodes::node_at(kinds, lefts, rights, groups, count, result);
     if whole.kind != 2 {
-        return Count::Refused(Refusal {
-            number: 7,
-            place: 0,
-        });
+        return Count::Refused(answers::WRONG_SHAPE);
     }
     if !same_type(kinds, lefts, rights, groups, count, whole.left, a_node) {
-        return Count::Refused(Refusal {
-            number: 7,
-            place: 0,
-        });
+        return Count::Refused(answers::WRONG_SHAPE);
     }
     if !same_type(kinds, lefts, rights, groups, count, whole.right, b_node) {
-        return Count::Refused(Refusal {
-            number: 7,
-            place: 0,
-        });
+        return Count::Refused(answers::WRONG_SHAPE);
     }
     let width = whole.width as usize;
     if out.len() < bytes_for(width) {
-        return Count::Refused(Refusal {
-            number: 9,
-            place: 0,
-        });
+        return Count::Refused(answers::NO_ROOM);
     }
     let a_first = a_offset / 8;
     let b_first = b_offset / 8;

@@ -6,7 +6,6 @@ use crate::making::optional;
 use crate::making::wrap;
 use answers::Count;
 use answers::Done;
-use answers::Refusal;
 ghost use mathlib.Core.Path.{_≡_};
 ghost use Rattle.meaning.specs.Tables.{table};
 ghost use Rattle.meaning.specs.Ladder.{record-of};
@@ -31,10 +30,7 @@ pub fn none(
         return Count::Refused(r);
     }
     if !optional(kinds, lefts, rights, groups, count, result) {
-        return Count::Refused(Refusal {
-            number: 7,
-            place: 0,
-        });
+        return Count::Refused(answers::WRONG_SHAPE);
     }
     blank(kinds, lefts, rights, groups, count, result, out)
 }
@@ -70,10 +66,7 @@ pub fn some(
         return Count::Refused(r);
     }
     if !optional(kinds, lefts, rights, groups, count, result) {
-        return Count::Refused(Refusal {
-            number: 7,
-            place: 0,
-        });
+        return Count::Refused(answers::WRONG_SHAPE);
     }
     wrap(
         kinds,

@@ -1,10 +1,9 @@
 // What the public calls do with records that they have checked: the payload of a sum, the parts of a product, equality and order.
 // Inner: the table is sound, the nodes are in it, and the records lie within their bytes.
 use answers::Order;
-use answers::Parted;
-use answers::Refusal;
-use answers::Seen;
 use answers::Spot;
+use answers::SpotAnswer;
+use answers::SpotsAnswer;
 ghost use mathlib.Core.Path.{_≡_};
 ghost use Prim.Native.Nat.{_<_};
 ghost use lib.ListN.{length, getD};
@@ -36,39 +35,30 @@ pub(crate) fn payload(
     offset: usize,
     node: usize,
     right: bool,
-) -> Seen
+) -> SpotAnswer
     requires { ⌜ Held (table (now kinds) (now lefts) (now rights) (now groups) count) (record-of (now bytes) offset node) ⌝ }
     ensures { λ r. ⌜ spotOf r ≡ payloadAt right (table (now (kinds .entry)) (now (lefts .entry)) (now (rights .entry)) (now (groups .entry)) count) (record-of (now (bytes .entry)) offset node) ⌝ }
 {
     let n = nodes::node_at(kinds, lefts, rights, groups, count, node);
     let width = n.width as usize;
     if TOP - width < offset {
-        return Seen::Refused(Refusal {
-            number: 5,
-            place: 0,
-        });
+        return SpotAnswer::Refused(answers::OUT_OF_BYTES);
     }
     if n.kind != 1 {
-        return Seen::Refused(Refusal {
-            number: 7,
-            place: 0,
-        });
+        return SpotAnswer::Refused(answers::WRONG_SHAPE);
     }
     let first = offset / 8;
     let tag = bits::bit_at(&bytes[first..], offset % 8);
     if tag != right {
-        return Seen::Refused(Refusal {
-            number: 7,
-            place: 0,
-        });
+        return SpotAnswer::Refused(answers::WRONG_SHAPE);
     }
     if right {
-        return Seen::At(Spot {
+        return SpotAnswer::At(Spot {
             offset: offset + (width - n.right_width as usize),
             node: side_in(rights, node),
         });
     }
-    Seen::At(Spot {
+    SpotAnswer::At(Spot {
         offset: offset + (width - n.left_width as usize),
         node: side_in(lefts, node),
     })
@@ -84,25 +74,19 @@ pub(crate) fn parts(
     bytes: &[u8],
     offset: usize,
     node: usize,
-) -> Parted
+) -> SpotsAnswer
     requires { ⌜ Held (table (now kinds) (now lefts) (now rights) (now groups) count) (record-of (now bytes) offset node) ⌝ }
     ensures { λ r. ⌜ spotsOf r ≡ partsAt (table (now (kinds .entry)) (now (lefts .entry)) (now (rights .entry)) (now (groups .entry)) count) (record-of (now (bytes .entry)) offset node) ⌝ }
 {
     let n = nodes::node_at(kinds, lefts, rights, groups, count, node);
     let width = n.width as usize;
     if TOP - width < offset {
-        return Parted::Refused(Refusal {
-            number: 5,
-            place: 0,
-        });
+        return SpotsAnswer::Refused(answers::OUT_OF_BYTES);
     }
     if n.kind != 2 {
-        return Parted::Refused(Refusal {
-            number: 7,
-            place: 0,
-        });
+        return SpotsAnswer::Refused(answers::WRONG_SHAPE);
     }
-    Parted::At(
+    SpotsAnswer::At(
         Spot {
             offset: offset,
             node: side_in(lefts, node),

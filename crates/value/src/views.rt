@@ -3,12 +3,12 @@
 use crate::reading::parts;
 use crate::reading::payload;
 use answers::Done;
-use answers::Parted;
-use answers::Seen;
+use answers::SpotAnswer;
+use answers::SpotsAnswer;
 ghost use mathlib.Core.Path.{_≡_};
 ghost use Rattle.meaning.specs.Tables.{table};
 ghost use Rattle.meaning.specs.Ladder.{record-of};
-ghost use Rattle.meaning.specs.RecordCalls.{asLeft, asRight, asProduct};
+ghost use Rattle.meaning.specs.RecordCalls.{asLeftCall, asRightCall, asProductCall};
 ghost use Rattle.answers.specs.Verdicts.{spotOf, spotsOf};
 
 // The payload of a left record.
@@ -21,12 +21,12 @@ pub fn as_left(
     bytes: &[u8],
     offset: usize,
     node: usize,
-) -> Seen
-    ensures { λ r. ⌜ spotOf r ≡ asLeft (table (now (kinds .entry)) (now (lefts .entry)) (now (rights .entry)) (now (groups .entry)) count) (record-of (now (bytes .entry)) offset node) ⌝ }
+) -> SpotAnswer
+    ensures { λ r. ⌜ spotOf r ≡ asLeftCall (table (now (kinds .entry)) (now (lefts .entry)) (now (rights .entry)) (now (groups .entry)) count) (record-of (now (bytes .entry)) offset node) ⌝ }
 {
     let judged = gate::record(kinds, lefts, rights, groups, count, bytes, offset, node);
     if let Done::Refused(r) = judged {
-        return Seen::Refused(r);
+        return SpotAnswer::Refused(r);
     }
     payload(
         kinds,
@@ -51,12 +51,12 @@ pub fn as_right(
     bytes: &[u8],
     offset: usize,
     node: usize,
-) -> Seen
-    ensures { λ r. ⌜ spotOf r ≡ asRight (table (now (kinds .entry)) (now (lefts .entry)) (now (rights .entry)) (now (groups .entry)) count) (record-of (now (bytes .entry)) offset node) ⌝ }
+) -> SpotAnswer
+    ensures { λ r. ⌜ spotOf r ≡ asRightCall (table (now (kinds .entry)) (now (lefts .entry)) (now (rights .entry)) (now (groups .entry)) count) (record-of (now (bytes .entry)) offset node) ⌝ }
 {
     let judged = gate::record(kinds, lefts, rights, groups, count, bytes, offset, node);
     if let Done::Refused(r) = judged {
-        return Seen::Refused(r);
+        return SpotAnswer::Refused(r);
     }
     payload(
         kinds,
@@ -81,12 +81,12 @@ pub fn as_product(
     bytes: &[u8],
     offset: usize,
     node: usize,
-) -> Parted
-    ensures { λ r. ⌜ spotsOf r ≡ asProduct (table (now (kinds .entry)) (now (lefts .entry)) (now (rights .entry)) (now (groups .entry)) count) (record-of (now (bytes .entry)) offset node) ⌝ }
+) -> SpotsAnswer
+    ensures { λ r. ⌜ spotsOf r ≡ asProductCall (table (now (kinds .entry)) (now (lefts .entry)) (now (rights .entry)) (now (groups .entry)) count) (record-of (now (bytes .entry)) offset node) ⌝ }
 {
     let judged = gate::record(kinds, lefts, rights, groups, count, bytes, offset, node);
     if let Done::Refused(r) = judged {
-        return Parted::Refused(r);
+        return SpotsAnswer::Refused(r);
     }
     parts(kinds, lefts, rights, groups, count, bytes, offset, node)
 }

@@ -2,9 +2,9 @@
 // Each function over a view takes it apart and calls a covered one on slice and numbers; its proof is a walk by hand. A caller with no walk calls
 // those, or `left_spot`. Assumes nothing of its input, and refuses what the function that it calls refuses.
 use answers::Flag;
-use answers::Parted;
-use answers::Seen;
 use answers::Spot;
+use answers::SpotAnswer;
+use answers::SpotsAnswer;
 ghost use mathlib.Core.Path.{_≡_};
 ghost use Rattle.meaning.specs.Tables.{table};
 ghost use Rattle.meaning.specs.Ladder.{record-of};
@@ -23,13 +23,13 @@ pub struct View<'a> {
 // What a view of one side answers: the view's own bytes, and beside them where the sub-view stands in them, or a refusal.
 pub struct Sub<'a> {
     pub bytes: &'a [u8],
-    pub at: Seen,
+    pub at: SpotAnswer,
 }
 
 // The same for two sides.
 pub struct Subs<'a> {
     pub bytes: &'a [u8],
-    pub at: Parted,
+    pub at: SpotsAnswer,
 }
 
 // A bit, or none.
@@ -106,7 +106,7 @@ pub fn as_left<'a>(
     count: usize,
     v: View<'a>,
 ) -> Sub<'a>
-    ensures { λ r. ⌜ (r .bytes ≡ v .entry .bytes) × (spotOf (r .at) ≡ calls.asLeft (table (now (kinds .entry)) (now (lefts .entry)) (now (rights .entry)) (now (groups .entry)) count) (record-of (now (v .entry .bytes)) (v .entry .offset) (v .entry .node))) ⌝ }
+    ensures { λ r. ⌜ (r .bytes ≡ v .entry .bytes) × (spotOf (r .at) ≡ calls.asLeftCall (table (now (kinds .entry)) (now (lefts .entry)) (now (rights .entry)) (now (groups .entry)) count) (record-of (now (v .entry .bytes)) (v .entry .offset) (v .entry .node))) ⌝ }
 {
     let at = value::as_left(
         kinds,
@@ -130,7 +130,7 @@ pub fn as_right<'a>(
     count: usize,
     v: View<'a>,
 ) -> Sub<'a>
-    ensures { λ r. ⌜ (r .bytes ≡ v .entry .bytes) × (spotOf (r .at) ≡ calls.asRight (table (now (kinds .entry)) (now (lefts .entry)) (now (rights .entry)) (now (groups .entry)) count) (record-of (now (v .entry .bytes)) (v .entry .offset) (v .entry .node))) ⌝ }
+    ensures { λ r. ⌜ (r .bytes ≡ v .entry .bytes) × (spotOf (r .at) ≡ calls.asRightCall (table (now (kinds .entry)) (now (lefts .entry)) (now (rights .entry)) (now (groups .entry)) count) (record-of (now (v .entry .bytes)) (v .entry .offset) (v .entry .node))) ⌝ }
 {
     let at = value::as_right(
         kinds,
@@ -154,7 +154,7 @@ pub fn as_product<'a>(
     count: usize,
     v: View<'a>,
 ) -> Subs<'a>
-    ensures { λ r. ⌜ (r .bytes ≡ v .entry .bytes) × (spotsOf (r .at) ≡ calls.asProduct (table (now (kinds .entry)) (now (lefts .entry)) (now (rights .entry)) (now (groups .entry)) count) (record-of (now (v .entry .bytes)) (v .entry .offset) (v .entry .node))) ⌝ }
+    ensures { λ r. ⌜ (r .bytes ≡ v .entry .bytes) × (spotsOf (r .at) ≡ calls.asProductCall (table (now (kinds .entry)) (now (lefts .entry)) (now (rights .entry)) (now (groups .entry)) count) (record-of (now (v .entry .bytes)) (v .entry .offset) (v .entry .node))) ⌝ }
 {
     let at = value::as_product(
         kinds,
@@ -179,7 +179,7 @@ pub fn equal<'a, 'b>(
     a: View<'a>,
     b: View<'b>,
 ) -> Flag
-    ensures { λ r. ⌜ flagOf r ≡ calls.equal (table (now (kinds .entry)) (now (lefts .entry)) (now (rights .entry)) (now (groups .entry)) count) (record-of (now (a .entry .bytes)) (a .entry .offset) (a .entry .node)) (record-of (now (b .entry .bytes)) (b .entry .offset) (b .entry .node)) ⌝ }
+    ensures { λ r. ⌜ flagOf r ≡ calls.equalCall (table (now (kinds .entry)) (now (lefts .entry)) (now (rights .entry)) (now (groups .entry)) count) (record-of (now (a .entry .bytes)) (a .entry .offset) (a .entry .node)) (record-of (now (b .entry .bytes)) (b .entry .offset) (b .entry .node)) ⌝ }
 {
     value::equal(
         kinds,
@@ -206,8 +206,8 @@ pub fn left_spot(
     bytes: &[u8],
     offset: usize,
     node: usize,
-) -> Seen
-    ensures { λ r. ⌜ spotOf r ≡ calls.asLeft (table (now (kinds .entry)) (now (lefts .entry)) (now (rights .entry)) (now (groups .entry)) count) (record-of (now (bytes .entry)) offset node) ⌝ }
+) -> SpotAnswer
+    ensures { λ r. ⌜ spotOf r ≡ calls.asLeftCall (table (now (kinds .entry)) (now (lefts .entry)) (now (rights .entry)) (now (groups .entry)) count) (record-of (now (bytes .entry)) offset node) ⌝ }
 {
     as_left(
         kinds,

@@ -16,7 +16,7 @@ use Rattle.meaning.specs.Types.{Ty, prod, bits, top}
 use Rattle.meaning.specs.Tables.{Table, left, right}
 use Rattle.meaning.specs.Words.{word, isWord, asWord, joins}
 use Rattle.meaning.specs.Ladder.{accepted, Rung, ladder, Record, record-of, typeAt, typeOf, recordBits}
-use Rattle.meaning.specs.RecordCalls.{handed, asProduct, Spots, productBits}
+use Rattle.meaning.specs.RecordCalls.{handed, asProductCall, Spots, productBits}
 use Rattle.meaning.specs.WordCalls.{joinCall, joinOut, joinRungs}
 use Rattle.meaning.specs.Checked.{Sound}
 use Rattle.meaning.proofs.Tests.{and-left, and-right}
@@ -33,7 +33,7 @@ places o n p m = record { first = record { offset = o; node = n }; second = reco
 
 -- Two records seen in a third: where they are, their types and their bits.
 pub record Halves (t : Table) (a b : Record) (result : ℕ) (new : List ℕ) : Type 0 where
-  pub seen : asProduct t (record-of new 0 result)
+  pub seen : asProductCall t (record-of new 0 result)
       ≡ accepted (places 0 (left (t .columns) result) (0 + bits (typeOf t a)) (right (t .columns) result))
   pub first-type : typeAt t (left (t .columns) result) ≡ typeOf t a
   pub second-type : typeAt t (right (t .columns) result) ≡ typeOf t b

@@ -16,7 +16,7 @@ use Rattle.meaning.specs.Tables.{Table, left, right}
 use Rattle.meaning.specs.Bits.{toBits, bitsOf}
 use Rattle.meaning.specs.Words.{word, buffer, bufferBits, ctx8, HashState, ctx8Bits}
 use Rattle.meaning.specs.Ladder.{accepted, ladder, record-of, typeAt, recordBits, named}
-use Rattle.meaning.specs.RecordCalls.{asProduct}
+use Rattle.meaning.specs.RecordCalls.{asProductCall}
 use Rattle.meaning.specs.WordCalls.{ctx8Call, ctx8Out, ctx8Rungs}
 use Rattle.meaning.specs.Checked.{Sound, Bytes}
 use Rattle.meaning.proofs.Types.{same-eq}
@@ -34,8 +34,8 @@ use Rattle.words.proofs.Views.{sides-of-product, right-allowed, product
 
 -- The three parts of a hash state in an output: the views that lead to them, and their bits.
 pub record StateParts (t : Table) (s : HashState) (result : ℕ) (new : List ℕ) : Type 0 where
-  pub outer : asProduct t (record-of new 0 result) ≡ accepted (places 0 (left (t .columns) result) 510 (right (t .columns) result))
-  pub inner : asProduct t (record-of new 510 (right (t .columns) result))
+  pub outer : asProductCall t (record-of new 0 result) ≡ accepted (places 0 (left (t .columns) result) 510 (right (t .columns) result))
+  pub inner : asProductCall t (record-of new 510 (right (t .columns) result))
       ≡ accepted (places 510 (left (t .columns) (right (t .columns) result)) 574 (right (t .columns) (right (t .columns) result)))
   pub held : recordBits t (record-of new 0 (left (t .columns) result)) ≡ bufferBits 5 (take (s .used) (s .buffered))
   pub count : recordBits t (record-of new 510 (left (t .columns) (right (t .columns) result))) ≡ toBits 64 (s .counted)

@@ -19,7 +19,7 @@ use Rattle.meaning.specs.Tables.{Table, kind, left, right, node}
 use Rattle.meaning.specs.Bits.{bitsOf}
 use Rattle.meaning.specs.Records.{firstOf, secondOf}
 use Rattle.meaning.specs.Ladder.{accepted, Rung, ladder, Record, record-of, typeAt, recordBits, named, within, shaped}
-use Rattle.meaning.specs.RecordCalls.{addressed, asProduct, Spots}
+use Rattle.meaning.specs.RecordCalls.{addressed, asProductCall, Spots}
 use Rattle.meaning.specs.Checked.{Sound}
 use Rattle.meaning.proofs.Ladders.{ladder-pass, ladder-fails, sound-accepted}
 use Rattle.meaning.proofs.Tests.{or-none}
@@ -78,7 +78,7 @@ module _ (t : Table) (s : Sound t) (n : ℕ) (a : Allowed t n) (x y : Ty) (e : t
 
   -- The record lies within its bytes, at an offset that leaves room for its views' offsets.
   module _ (bytes : List ℕ) (o : ℕ) (ends : o + bits (typeAt t n) ≤ 8 * length bytes) (low : o + bits (typeAt t n) ≤ top) where
-    pub product-seen : asProduct t (record-of bytes o n)
+    pub product-seen : asProductCall t (record-of bytes o n)
         ≡ accepted
         (record {
           first = record { offset = o; node = left (t .columns) n };

@@ -11,10 +11,10 @@ ghost use Rattle.answers.specs.Verdicts.{countOf};
 const NO_ARRAY: usize = 29;
 
 // The k of a length of 2^k. The zeros below the lowest bit set name the only candidate.
-fn exponent_of(length: usize) -> usize
-    ensures { λ r. ⌜ r ≡ exponent length ⌝ }
+fn exponent_of(size: usize) -> usize
+    ensures { λ r. ⌜ r ≡ exponent size ⌝ }
 {
-    let wide = length as u64;
+    let wide = size as u64;
     let k = u64::trailing_zeros(wide) as usize;
     if NO_ARRAY <= k {
         return NO_ARRAY;

@@ -3,7 +3,6 @@ use crate::HashState;
 use crate::segments::write_buffer;
 use answers::Count;
 use answers::Done;
-use answers::Refusal;
 ghost use mathlib.Core.Path.{_≡_};
 ghost use Prim.Native.Nat.{_≤_};
 ghost use lib.ListN.{length};
@@ -34,30 +33,18 @@ pub fn buffer8_two_n_plus_one(
         return Count::Refused(r);
     }
     if 13 <= n {
-        return Count::Refused(Refusal {
-            number: 6,
-            place: 0,
-        });
+        return Count::Refused(answers::OUT_OF_RANGE);
     }
     let limit = 2 * (shapes::word_width(n) as usize);
     if limit <= data.len() {
-        return Count::Refused(Refusal {
-            number: 6,
-            place: 0,
-        });
+        return Count::Refused(answers::OUT_OF_RANGE);
     }
     if !shapes::is_buffer(kinds, lefts, rights, groups, count, result, n) {
-        return Count::Refused(Refusal {
-            number: 7,
-            place: 0,
-        });
+        return Count::Refused(answers::WRONG_SHAPE);
     }
     let width = shapes::buffer_width(n) as usize;
     if out.len() < (width + 7) / 8 {
-        return Count::Refused(Refusal {
-            number: 9,
-            place: 0,
-        });
+        return Count::Refused(answers::NO_ROOM);
     }
     write_buffer(out, n, data);
     bits::finish(out, width);
@@ -99,22 +86,13 @@ pub fn ctx8(
     }
     let used = state.used;
     if 63 < used {
-        return Count::Refused(Refusal {
-            number: 6,
-            place: 0,
-        });
+        return Count::Refused(answers::OUT_OF_RANGE);
     }
     if !shapes::is_ctx8(kinds, lefts, rights, groups, count, result) {
-        return Count::Refused(Refusal {
-            number: 7,
-            place: 0,
-        });
+        return Count::Refused(answers::WRONG_SHAPE);
     }
     if out.len() < 104 {
-        return Count::Refused(Refusal {
-            number: 9,
-            place: 0,
-        });
+        return Count::Refused(answers::NO_ROOM);
     }
     write_state(out, state);
     Count::Is(830)

@@ -3,7 +3,6 @@
 use crate::writers::write_run;
 use answers::Count;
 use answers::Done;
-use answers::Refusal;
 ghost use mathlib.Core.Path.{_≡_};
 ghost use mathlib.Core.Bool.{true};
 ghost use Prim.Native.Nat.{_*_, _^_, _<_, _≤_};
@@ -37,22 +36,13 @@ pub(crate) fn bytes_word(
         return Count::Refused(r);
     }
     if !fits {
-        return Count::Refused(Refusal {
-            number: 6,
-            place: 0,
-        });
+        return Count::Refused(answers::OUT_OF_RANGE);
     }
     if !shapes::is_word(kinds, lefts, rights, groups, count, result, n) {
-        return Count::Refused(Refusal {
-            number: 7,
-            place: 0,
-        });
+        return Count::Refused(answers::WRONG_SHAPE);
     }
     if out.len() < bytes.len() {
-        return Count::Refused(Refusal {
-            number: 9,
-            place: 0,
-        });
+        return Count::Refused(answers::NO_ROOM);
     }
     let width = 8 * bytes.len();
     write_run(out, bytes, 0, width);

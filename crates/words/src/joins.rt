@@ -3,7 +3,6 @@ use crate::writers::write_pair;
 use crate::writers::write_run;
 use answers::Count;
 use answers::Done;
-use answers::Refusal;
 ghost use mathlib.Core.Path.{_≡_};
 ghost use Rattle.meaning.specs.Tables.{table};
 ghost use Rattle.meaning.specs.Ladder.{record-of, stream-of};
@@ -48,29 +47,17 @@ pub fn word_product(
     }
     let n = shapes::word_of(kinds, lefts, rights, groups, count, a_node);
     if 31 <= n {
-        return Count::Refused(Refusal {
-            number: 7,
-            place: 0,
-        });
+        return Count::Refused(answers::WRONG_SHAPE);
     }
     if !shapes::is_word(kinds, lefts, rights, groups, count, b_node, n) {
-        return Count::Refused(Refusal {
-            number: 7,
-            place: 0,
-        });
+        return Count::Refused(answers::WRONG_SHAPE);
     }
     if !shapes::is_word(kinds, lefts, rights, groups, count, result, n + 1) {
-        return Count::Refused(Refusal {
-            number: 7,
-            place: 0,
-        });
+        return Count::Refused(answers::WRONG_SHAPE);
     }
     let half = shapes::word_width(n) as usize;
     if out.len() < (half + half + 7) / 8 {
-        return Count::Refused(Refusal {
-            number: 9,
-            place: 0,
-        });
+        return Count::Refused(answers::NO_ROOM);
     }
     let a_first = a_offset / 8;
     let b_first = b_offset / 8;
@@ -93,14 +80,14 @@ pub fn word_from_bits(
     groups: &[u8],
     count: usize,
     bytes: &[u8],
-    length: usize,
+    until: usize,
     position: usize,
     n: usize,
     node: usize,
     out: &mut [u8],
 ) -> Count
-    ensures { λ r. ⌜ countOf r ≡ wordReadCall (table (now (kinds .entry)) (now (lefts .entry)) (now (rights .entry)) (now (groups .entry)) count) (stream-of (now (bytes .entry)) length position) n node (now (out .entry)) ⌝ }
-    ensures { λ _. ⌜ now (out .exit) ≡ wordReadOut (table (now (kinds .entry)) (now (lefts .entry)) (now (rights .entry)) (now (groups .entry)) count) (stream-of (now (bytes .entry)) length position) n node (now (out .entry)) ⌝ }
+    ensures { λ r. ⌜ countOf r ≡ wordReadCall (table (now (kinds .entry)) (now (lefts .entry)) (now (rights .entry)) (now (groups .entry)) count) (stream-of (now (bytes .entry)) until position) n node (now (out .entry)) ⌝ }
+    ensures { λ _. ⌜ now (out .exit) ≡ wordReadOut (table (now (kinds .entry)) (now (lefts .entry)) (now (rights .entry)) (now (groups .entry)) count) (stream-of (now (bytes .entry)) until position) n node (now (out .entry)) ⌝ }
 {
     let judged = gate::stream(
         kinds,
@@ -109,7 +96,7 @@ pub fn word_from_bits(
         groups,
         count,
         bytes,
-        length,
+        until,
         position,
         node,
     );
@@ -117,29 +104,17 @@ pub fn word_from_bits(
         return Count::Refused(r);
     }
     if 32 <= n {
-        return Count::Refused(Refusal {
-            number: 6,
-            place: 0,
-        });
+        return Count::Refused(answers::OUT_OF_RANGE);
     }
     if !shapes::is_word(kinds, lefts, rights, groups, count, node, n) {
-        return Count::Refused(Refusal {
-            number: 7,
-            place: 0,
-        });
+        return Count::Refused(answers::WRONG_SHAPE);
     }
     let width = shapes::word_width(n) as usize;
-    if length - position < width {
-        return Count::Refused(Refusal {
-            number: 8,
-            place: 0,
-        });
+    if until - position < width {
+        return Count::Refused(answers::ENDS_EARLY);
     }
     if out.len() < (width + 7) / 8 {
-        return Count::Refused(Refusal {
-            number: 9,
-            place: 0,
-        });
+        return Count::Refused(answers::NO_ROOM);
     }
     let first = position / 8;
     write_run(out, &bytes[first..], position % 8, width);

@@ -3,7 +3,6 @@
 use crate::writers::write_number;
 use answers::Count;
 use answers::Done;
-use answers::Refusal;
 ghost use mathlib.Core.Path.{_≡_};
 ghost use Prim.Native.Nat.{_<_};
 ghost use Rattle.meaning.specs.Tables.{table};
@@ -32,22 +31,13 @@ fn number_word(
     }
     let width = shapes::word_width(n) as usize;
     if number >> width != 0 {
-        return Count::Refused(Refusal {
-            number: 6,
-            place: 0,
-        });
+        return Count::Refused(answers::OUT_OF_RANGE);
     }
     if !shapes::is_word(kinds, lefts, rights, groups, count, result, n) {
-        return Count::Refused(Refusal {
-            number: 7,
-            place: 0,
-        });
+        return Count::Refused(answers::WRONG_SHAPE);
     }
     if out.len() < (width + 7) / 8 {
-        return Count::Refused(Refusal {
-            number: 9,
-            place: 0,
-        });
+        return Count::Refused(answers::NO_ROOM);
     }
     write_number(out, number, width);
     Count::Is(width)

@@ -31,7 +31,7 @@ module _ (c : tie.After-stream) where
       table (a .kinds .now) (a .lefts .now) (a .rights .now) (a .groups .now) (a .count)
 
   abbrev stream : Stream
-  stream = stream-of (start .args .bytes .now) (start .args .length) (start .args .position)
+  stream = stream-of (start .args .bytes .now) (start .args .until) (start .args .position)
 
   -- What is lent on.
   abbrev src : List ℕ
@@ -66,10 +66,10 @@ module _ (c : tie.After-enum-told) where
   abbrev gate : tie.After-stream
   gate = c .before .before
 
-  checked : Streamed (of gate) (start gate .args .bytes .now) (start gate .args .length) (start gate .args .position) (start gate .args .node)
+  checked : Streamed (of gate) (start gate .args .bytes .now) (start gate .args .until) (start gate .args .position) (start gate .args .node)
   checked =
       let a = start gate .args in
-      streamed-on (of gate) (a .bytes .now) (a .length) (a .position) (a .node) (ap doneOf (sym (c .enum-told .given .1)) ∙ gate .stream .ensures)
+      streamed-on (of gate) (a .bytes .now) (a .until) (a .position) (a .node) (ap doneOf (sym (c .enum-told .given .1)) ∙ gate .stream .ensures)
 
 sub-src : tie.Need-sub-src
 sub-src c = stream-start (checked c)
@@ -80,11 +80,11 @@ part-src-start c = stream-start (checked c)
 part-src-end : tie.Need-part-src-end
 part-src-end c = search needs
 
-sub-until : tie.Need-sub-until
-sub-until c = checked (c .before) .begins
+sub-end : tie.Need-sub-end
+sub-end c = checked (c .before) .begins
 
-add-until : tie.Need-add-until
-add-until c = let s = checked (c .before) in record { fits = omega (arith, s .begins, start (gate (c .before)) .fits .length .fits) }
+add-end : tie.Need-add-end
+add-end c = let s = checked (c .before) in record { fits = omega (arith, s .begins, start (gate (c .before)) .fits .until .fits) }
 
 ends-early-requires : tie.Need-ends-early-requires
 ends-early-requires c κs = let s = checked (c .before) in (s .walk, (omega arith, stream-until s))
@@ -130,7 +130,7 @@ module _ (c : tie.Else1) where
   same : again ≡ decoded (recordOf (read (call judged))) (consumed (read (call judged)))
   same = stream-same (checked (entered judged)) (whole not-early)
 
-  within : consumed again ≤ start (call judged) .args .length - start (call judged) .args .position
+  within : consumed again ≤ start (call judged) .args .until - start (call judged) .args .position
   within = omega (arith, ap consumed same, found .enough, rest-length (checked (entered judged)))
 
 width-of-requires : tie.Need-width-of-requires
@@ -168,7 +168,7 @@ read-record-requires c κs =
         (
           record {
             inside = omega (arith, within n, stream-until s);
-            counted = omega (arith, within n, s .begins, start (call (judged n)) .fits .length .fits);
+            counted = omega (arith, within n, s .begins, start (call (judged n)) .fits .until .fits);
           },
           record { inside = omega (arith, c .before .if2 .left, w .width-of .ensures); counted = omega (arith, narrow w, w .width-of .ensures) },
         ),
@@ -190,7 +190,7 @@ add-t24 : tie.Need-add-t24
 add-t24 c =
     let n = sized (begun c) in
     let s = checked (entered (judged n)) in
-    record { fits = omega (arith, done c .read-record .ensures .0, within n, s .begins, start (call (judged n)) .fits .length .fits) }
+    record { fits = omega (arith, done c .read-record .ensures .0, within n, s .begins, start (call (judged n)) .fits .until .fits) }
 
 same-length : tie.Need-same-length
 same-length c = search needs
@@ -217,8 +217,8 @@ from-compact-bits-spec =
     sub-src
     part-src-start
     part-src-end
-    sub-until
-    add-until
+    sub-end
+    add-end
     ends-early-requires
     returns-2
     width-of-requires

@@ -32,7 +32,7 @@ module _ (c : tie.After-stream) where
       table (a .kinds .now) (a .lefts .now) (a .rights .now) (a .groups .now) (a .count)
 
   abbrev stream : Stream
-  stream = stream-of (start .args .bytes .now) (start .args .length) (start .args .position)
+  stream = stream-of (start .args .bytes .now) (start .args .until) (start .args .position)
 
   -- What is lent on.
   abbrev src : List ℕ
@@ -67,10 +67,10 @@ module _ (c : tie.After-enum-told) where
   abbrev gate : tie.After-stream
   gate = c .before .before
 
-  checked : Streamed (of gate) (start gate .args .bytes .now) (start gate .args .length) (start gate .args .position) (start gate .args .node)
+  checked : Streamed (of gate) (start gate .args .bytes .now) (start gate .args .until) (start gate .args .position) (start gate .args .node)
   checked =
       let a = start gate .args in
-      streamed-on (of gate) (a .bytes .now) (a .length) (a .position) (a .node) (ap doneOf (sym (c .enum-told .given .1)) ∙ gate .stream .ensures)
+      streamed-on (of gate) (a .bytes .now) (a .until) (a .position) (a .node) (ap doneOf (sym (c .enum-told .given .1)) ∙ gate .stream .ensures)
 
 sub-src : tie.Need-sub-src
 sub-src c = stream-start (checked c)
@@ -110,7 +110,7 @@ module _ (c : tie.Else1) where
   abbrev sized : tie.After-width-of
   sized = c .before
 
-  enough : wide sized ≤ start (call sized) .args .length - start (call sized) .args .position
+  enough : wide sized ≤ start (call sized) .args .until - start (call sized) .args .position
   enough = omega (arith, c .if1 .left, sized .width-of .ensures)
 
   run : read (call sized) ≡ decoded (take (wide sized) (drop (at (call sized)) (bitsOf (src (call sized))))) (wide sized)
@@ -160,7 +160,7 @@ add-t18 : tie.Need-add-t18
 add-t18 c =
     let e = judged c in
     let w = sized e in
-    record { fits = omega (arith, enough e, w .width-of .ensures, checked (entered w) .begins, start (call w) .fits .length .fits) }
+    record { fits = omega (arith, enough e, w .width-of .ensures, checked (entered w) .begins, start (call w) .fits .until .fits) }
 
 same-length : tie.Need-same-length
 same-length c = search needs

@@ -33,8 +33,8 @@ kind-found : (e : tie.Else1) → found (Kind e) (LeftAt e) ≡ number (λ m. ltb
 kind-found e = sym (ap (readAt (At e)) (e .before .before .kind .given .1)) ∙ e .before .before .before .before .number-below .ensures
 
 -- The left side and the offset after it.
-abbrev Sided : tie.After-known-told2 → tie.Else1
-Sided d = d .before .before .before .before
+abbrev SidesAnswer : tie.After-known-told2 → tie.Else1
+SidesAnswer d = d .before .before .before .before
 
 abbrev Left : tie.After-known-told2 → ℕ
 Left d = d .before .left .given .0 .0
@@ -42,8 +42,8 @@ Left d = d .before .left .given .0 .0
 abbrev RightAt : tie.After-known-told2 → ℕ
 RightAt d = d .before .left .given .0 .1 .0
 
-left-found : (d : tie.After-known-told2) → found (Left d) (RightAt d) ≡ number (λ m. ltb m (N (Sided d))) (File (Sided d)) (LeftAt (Sided d))
-left-found d = sym (ap (readAt (LeftAt (Sided d))) (d .before .left .given .1)) ∙ d .before .before .before .number-below2 .ensures
+left-found : (d : tie.After-known-told2) → found (Left d) (RightAt d) ≡ number (λ m. ltb m (N (SidesAnswer d))) (File (SidesAnswer d)) (LeftAt (SidesAnswer d))
+left-found d = sym (ap (readAt (LeftAt (SidesAnswer d))) (d .before .left .given .1)) ∙ d .before .before .before .number-below2 .ensures
 
 -- The right side and the offset after it.
 abbrev Lefted : tie.After-known-told3 → tie.After-known-told2
@@ -56,7 +56,7 @@ abbrev Next : tie.After-known-told3 → ℕ
 Next c = c .before .right .given .0 .1 .0
 
 right-found : (c : tie.After-known-told3)
-    → found (Right c) (Next c) ≡ number (λ m. ltb m (N (Sided (Lefted c)))) (File (Sided (Lefted c))) (RightAt (Lefted c))
+    → found (Right c) (Next c) ≡ number (λ m. ltb m (N (SidesAnswer (Lefted c)))) (File (SidesAnswer (Lefted c))) (RightAt (Lefted c))
 right-found c = sym (ap (readAt (RightAt (Lefted c))) (c .before .right .given .1)) ∙ c .before .before .before .number-below3 .ensures
 
 number-below-requires : tie.Need-number-below-requires
@@ -108,19 +108,19 @@ enum-told-3 c = search needs
 returns-4 : tie.Need-returns-4
 returns-4 c =
     let d = c .before .before .before in
-    let e = Sided d in
+    let e = SidesAnswer d in
     node-right-fault _ (N e) (At e) (Kind e) (LeftAt e) (kind-found e) (e .if1 .left) (Left d) (RightAt d) (left-found d)
     (sym (ap (readAt (RightAt d)) (c .enum-told3 .given .1)) ∙ c .before .before .number-below3 .ensures)
 
 cast-t15 : tie.Need-cast-t15
 cast-t15 c =
-    let e = Sided (Lefted c) in
+    let e = SidesAnswer (Lefted c) in
     omega (arith, ltb-true (Kind e) 3 (number-range (λ m. ltb m 3) (File e) (At e) (Kind e) (LeftAt e) (kind-found e) .1))
 
 cast-t16 : tie.Need-cast-t16
 cast-t16 c =
     let d = Lefted c in
-    let e = Sided d in
+    let e = SidesAnswer d in
     omega (
       arith,
       e .before .before .before .before .before .before .pre,
@@ -130,7 +130,7 @@ cast-t16 c =
 cast-t17 : tie.Need-cast-t17
 cast-t17 c =
     let d = Lefted c in
-    let e = Sided d in
+    let e = SidesAnswer d in
     omega (
       arith,
       e .before .before .before .before .before .before .pre,
@@ -140,7 +140,7 @@ cast-t17 c =
 returns-5 : tie.Need-returns-5
 returns-5 c =
     let d = Lefted c in
-    let e = Sided d in
+    let e = SidesAnswer d in
     node-sides _ (N e) (At e) (Kind e) (LeftAt e) (kind-found e) (e .if1 .left) (Left d) (RightAt d) (Right c) (Next c) (left-found d) (right-found c)
 
 pub node-at-spec : {M : Type 1} → statement M

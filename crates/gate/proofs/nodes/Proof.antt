@@ -14,7 +14,7 @@ use Rattle.meaning.specs.Types.{bits, size}
 use Rattle.meaning.specs.Groups.{groupSize}
 use Rattle.meaning.specs.Tables.{Table, table, tyAt}
 use Rattle.meaning.specs.Ladder.{accepted}
-use Rattle.meaning.specs.TypeCalls.{checkTable}
+use Rattle.meaning.specs.TypeCalls.{checkTableCall}
 use Rattle.meaning.specs.Checked.{Sound}
 use Rattle.meaning.proofs.Ladders.{accepted-sound}
 use Rattle.meaning.proofs.Sounds.{sound-width, sound-size}
@@ -36,7 +36,7 @@ abbrev start : tie.Else1 → tie.Start
 start c = c .before .before .before .before .before .before .before .before .before
 
 -- Past the first call the table is sound.
-passed : (c : tie.After-enum-told) → checkTable (of (c .before .before .before .before .before .before .before)) ≡ accepted (tt {0})
+passed : (c : tie.After-enum-told) → checkTableCall (of (c .before .before .before .before .before .before .before)) ≡ accepted (tt {0})
 passed c = sym (c .before .before .sound .ensures) ∙ ap doneOf (c .enum-told .given .1)
 
 -- Past the second, each node is in the table.

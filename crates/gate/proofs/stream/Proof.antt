@@ -23,22 +23,22 @@ of c =
     table (c .args .kinds .now) (c .args .lefts .now) (c .args .rights .now) (c .args .groups .now) (c .args .count)
 
 abbrev given : tie.Start → Stream
-given c = stream-of (c .args .bytes .now) (c .args .length) (c .args .position)
+given c = stream-of (c .args .bytes .now) (c .args .until) (c .args .position)
 
 -- The two tests of rung 5.
 abbrev long : tie.Start → Bool
-long s = ltb (8 * length (s .args .bytes .now)) (s .args .length)
+long s = ltb (8 * length (s .args .bytes .now)) (s .args .until)
 
 abbrev beyond : tie.Start → Bool
-beyond s = ltb (s .args .length) (s .args .position)
+beyond s = ltb (s .args .until) (s .args .position)
 
 named-accepted : (c : tie.After-enum-told) → ladder (named (of (c .before .before .before .before .before .before .before .before)) (c .before .before .before .before .before .before .before .before .args .node ∷ [])) (tt {0}) ≡ accepted (tt {0})
 named-accepted c =
     sym (once (of (c .before .before .before .before .before .before .before .before)) (c .before .before .before .before .before .before .before .before .args .node)) ∙ sym (c .before .before .nodes .ensures) ∙ ap doneOf (c .enum-told .given .1)
 
 -- What `past` says of the stream's length.
-long-is : (s : tie.Start) → ltb (8 * length (s .args .bytes .now)) (s .args .length + 0) ≡ long s
-long-is s = ap (ltb (8 * length (s .args .bytes .now))) (add-zero (s .args .length))
+long-is : (s : tie.Start) → ltb (8 * length (s .args .bytes .now)) (s .args .until + 0) ≡ long s
+long-is s = ap (ltb (8 * length (s .args .bytes .now))) (add-zero (s .args .until))
 
 nodes-requires : tie.Need-nodes-requires
 nodes-requires c κs = search needs
@@ -68,14 +68,14 @@ returns-3 : tie.Need-returns-3
 returns-3 c =
     let s = c .before .before .before .before .before .before .before .before .before .before .before in
     stream-past (of s) (given s) (s .args .node) (named-accepted (c .before .before .before))
-    (or-inr (long s) (beyond s) (lt-ltb (s .args .length) (s .args .position) (c .if2 .taken)))
+    (or-inr (long s) (beyond s) (lt-ltb (s .args .until) (s .args .position) (c .if2 .taken)))
 
 returns-4 : tie.Need-returns-4
 returns-4 c =
     let s = c .before .before .before .before .before .before .before .before .before .before .before in
     stream-pass (of s) (given s) (s .args .node) (named-accepted (c .before .before .before))
     (or-none (long s) (beyond s) (sym (long-is s) ∙ sym (c .before .before .past .ensures) ∙ c .before .if1 .left)
-    (le-ltb (s .args .length) (s .args .position) (c .if2 .left)))
+    (le-ltb (s .args .until) (s .args .position) (c .if2 .left)))
 
 pub stream-spec : {M : Type 1} → statement M
 stream-spec =

@@ -7,7 +7,7 @@ use mathlib.Core.Path.{_≡_, sym, _∙_, ap, subst}
 use mathlib.Core.List.{List}
 use Rattle.answers.specs.Verdicts.{countOf}
 use Rattle.meaning.specs.Ladder.{accepted, refused}
-use Rattle.meaning.specs.TypeCalls.{readTable}
+use Rattle.meaning.specs.TypeCalls.{readTableCall}
 use Rattle.lines.specs.Report.{groupsText, refusalLine}
 use Rattle.lines.specs.Buffer.{Printed}
 use Rattle.lines.proofs.Texts.{accepted-text, refused-text}
@@ -81,7 +81,7 @@ returns c =
     let rt = called (left d) .read-table in
     let g = told d .read .given in
     let file = s .args .file .now in
-    let e : readTable file zeroColumns zeroGroups ≡ accepted (g .0 .0) = sym (rt .ensures .0) ∙ ap countOf (g .1) in
+    let e : readTableCall file zeroColumns zeroGroups ≡ accepted (g .0 .0) = sym (rt .ensures .0) ∙ ap countOf (g .1) in
     let q = rt .ensures .1 in
     subst (λ (t : List ℕ). Printed (s .args .out .now) t (c .before .before .report .last .0) (c .before .before .report .result))
     ((λ i. groupsText (q .0 i) (q .1 .1 .1 i) (g .0 .0)) ∙ accepted-text file zeroColumns zeroGroups (g .0 .0) (few-nodes d) e)
@@ -97,9 +97,9 @@ returns-2 c =
     let rt = called (d .before .before) .read-table in
     let g = d .read2 .given in
     let file = s .args .file .now in
-    let e : refused (g .0 .0 .number) (g .0 .0 .place) ≡ readTable file zeroColumns zeroGroups = sym (ap countOf (g .1)) ∙ rt .ensures .0 in
+    let e : refused (g .0 .0 .number) (g .0 .0 .place) ≡ readTableCall file zeroColumns zeroGroups = sym (ap countOf (g .1)) ∙ rt .ensures .0 in
     let one = only-faults file (g .0 .0 .number) (g .0 .0 .place) e in
-    let f : readTable file zeroColumns zeroGroups ≡ refused 1 (g .0 .0 .place) = sym e ∙ ap (λ (m : ℕ). refused m (g .0 .0 .place)) one in
+    let f : readTableCall file zeroColumns zeroGroups ≡ refused 1 (g .0 .0 .place) = sym e ∙ ap (λ (m : ℕ). refused m (g .0 .0 .place)) one in
     subst (λ (t : List ℕ). Printed (s .args .out .now) t (c .before .before .refusal-line .last .0) (c .before .before .refusal-line .result))
     (ap (λ (m : ℕ). refusalLine m (g .0 .0 .place)) one ∙ refused-text file zeroColumns zeroGroups (g .0 .0 .place) f)
     (c .before .before .refusal-line .ensures)

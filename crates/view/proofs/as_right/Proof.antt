@@ -19,10 +19,10 @@ use denote.Triple.Statement.{Contract, Triple}
 use denote.Triple.Spec.{Meets}
 use denote.Triple.Table.{entered, cited}
 use Rattle.meaning.specs.Ladder.{record-of}
-use Rattle.meaning.specs.RecordCalls.{asRight}
+use Rattle.meaning.specs.RecordCalls.{asRightCall}
 use Rattle.answers.specs.Verdicts.{spotOf}
-use Rattle.answers.proofs.Seen as S
-use Rattle.answers.proofs.Seen.Laws as S′
+use Rattle.answers.proofs.SpotAnswer as S
+use Rattle.answers.proofs.SpotAnswer.Laws as S′
 use Rattle.view.proofs.Sub as R
 use Rattle.view.proofs.Beside.{beside-meets, nameOf}
 use Rattle.view.proofs.Columns.{tableOf}
@@ -55,7 +55,7 @@ module _ {M : Type 1} (𝓤 : URA M) (H : Heap 𝓤) (A : Atoms 𝓤) (mem : Mem
       (record {
         ghost = λ κs b. tt;
         free = λ κs b. id⊢ 𝓤 (emp 𝓤);
-        known = λ κs t d r. spotOf r ≡ asRight (tableOf 1 κs t) (record-of (now (d .bytes)) (d .offset) (d .node));
+        known = λ κs t d r. spotOf r ≡ asRightCall (tableOf 1 κs t) (record-of (now (d .bytes)) (d .offset) (d .node));
         said = λ κs t d r e. id⊢ 𝓤 _;
         says = λ κs t d g r e x. factI 𝓤 _ (emp 𝓤) (refl, e);
       })

@@ -126,7 +126,7 @@ module _ {M : Type 1} (𝓤 : URA M) (H : Heap 𝓤) (A : Atoms 𝓤) (W : Given
       (asks 𝓤 H A callee.ended (callee.clauses 𝓤 H A mem run) to (id⊢ 𝓤 (emp 𝓤)))
 
   abbrev φ : Flag → Type 0
-  φ r = flagOf r ≡ calls.equal (tableOf 2 κs t) (record-of (now (x .bytes)) (x .offset) (x .node)) (record-of (now (y .bytes)) (y .offset) (y .node))
+  φ r = flagOf r ≡ calls.equalCall (tableOf 2 κs t) (record-of (now (x .bytes)) (x .offset) (x .node)) (record-of (now (y .bytes)) (y .offset) (y .node))
 
   module _ (C : Calls 𝓤 H) (Λ : Loops 𝓤 H) (fm : FmC 𝓤 H (W .laws) C) (known : Triple 𝓤 (C #value·equal) (Callee 𝓤 H A mem run)) where
     walk : Typed (mirs params) (flat params vs)

@@ -35,10 +35,10 @@ use denote.Triple.Entry.{Args, Vals, onEntry}
 use denote.Triple.Spec.{Meets}
 use denote.Triple.Table.{entered, cited}
 use Rattle.meaning.specs.Ladder.{Answer, record-of}
-use Rattle.meaning.specs.RecordCalls.{Spot, asLeft}
+use Rattle.meaning.specs.RecordCalls.{Spot, asLeftCall}
 use Rattle.answers.specs.Verdicts.{spotOf}
-use Rattle.answers.proofs.Seen as S
-use Rattle.answers.proofs.Seen.Laws as S′
+use Rattle.answers.proofs.SpotAnswer as S
+use Rattle.answers.proofs.SpotAnswer.Laws as S′
 use Rattle.view.specs.declared.View.{View}
 use Rattle.view.specs.declared.Sub.{Sub}
 use Rattle.view.proofs.View as T
@@ -174,7 +174,7 @@ module _ {M : Type 1} (𝓤 : URA M) (H : Heap 𝓤) (A : Atoms 𝓤) (W : Given
       (fst∗ 𝓤 place (emp 𝓤))))
 
   abbrev found : View → Answer Spot
-  found w = asLeft (tableOf 1 κs t) (record-of (now (w .bytes)) (w .offset) (w .node))
+  found w = asLeftCall (tableOf 1 κs t) (record-of (now (w .bytes)) (w .offset) (w .node))
 
   abbrev Made : View → Type 0
   Made w = (w .bytes ≡ d .bytes) × (w .offset ≡ d .offset) × (w .node ≡ d .node)
@@ -182,8 +182,8 @@ module _ {M : Type 1} (𝓤 : URA M) (H : Heap 𝓤) (A : Atoms 𝓤) (W : Given
   -- the view that was made is that of the record
   same : (w : View) → Made w → found w ≡ found d
   same w e =
-      ap (λ (b : RefT (List ℕ)). asLeft (tableOf 1 κs t) (record-of (now b) (w .offset) (w .node))) (e .0)
-      ∙ ap₂ (λ (o n : ℕ). asLeft (tableOf 1 κs t) (record-of (now (d .bytes)) o n)) (e .1) (e .2)
+      ap (λ (b : RefT (List ℕ)). asLeftCall (tableOf 1 κs t) (record-of (now b) (w .offset) (w .node))) (e .0)
+      ∙ ap₂ (λ (o n : ℕ). asLeftCall (tableOf 1 κs t) (record-of (now (d .bytes)) o n)) (e .1) (e .2)
 
   abbrev Beside : View → Sub → Type 0
   Beside w s = (s .bytes ≡ w .bytes) × (spotOf (s .at) ≡ found w)

@@ -4,7 +4,7 @@ use mathlib.Core.Path.{_≡_, sym, _∙_, ap}
 use Rattle.meaning.specs.Types.{isProd}
 use Rattle.meaning.specs.Tables.{Table, table}
 use Rattle.meaning.specs.Ladder.{typeAt, shaped}
-use Rattle.meaning.specs.TypeCalls.{sidesOf}
+use Rattle.meaning.specs.TypeCalls.{sidesAt}
 use Rattle.answers.specs.Verdicts.{factsOf}
 use Rattle.table.proofs.Asking.{told-stop}
 use Rattle.table.proofs.Types.{product-told}
@@ -32,7 +32,7 @@ returns : tie.Need-returns
 returns c =
     let s = c .before .before .before .before .before .before .before .before in
     let r = c .before .r .given in
-    told-stop (of s) (s .args .node) (shaped (isProd (typeAt (of s) (s .args .node)))) (sidesOf (of s) (s .args .node)) (r .0 .0 .number) (r .0 .0 .place)
+    told-stop (of s) (s .args .node) (shaped (isProd (typeAt (of s) (s .args .node)))) (sidesAt (of s) (s .args .node)) (r .0 .0 .number) (r .0 .0 .place)
     (sym (ap factsOf (r .1)) ∙ c .before .before .before .facts-of .ensures)
 
 returns-2 : tie.Need-returns-2

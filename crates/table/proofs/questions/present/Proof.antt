@@ -3,7 +3,7 @@ use borrow.Author.Needs.{needs}
 use mathlib.Core.Path.{_≡_, sym, _∙_, ap}
 use Rattle.meaning.specs.Tables.{Table, table}
 use Rattle.meaning.specs.Ladder.{accepted}
-use Rattle.meaning.specs.TypeCalls.{checkTable}
+use Rattle.meaning.specs.TypeCalls.{checkTableCall}
 use Rattle.answers.specs.Verdicts.{doneOf}
 use Rattle.table.proofs.Asking.{not-sound, first-missing, second-missing, both-there}
 use Rattle.table.proofs.questions.present.Statement.{statement}
@@ -18,7 +18,7 @@ of c =
 abbrev entry : tie.After-enum-told → tie.Start
 entry c = c .before .before .before .before .before .before .before
 
-passed : (c : tie.After-enum-told) → accepted (tt {0}) ≡ checkTable (of (entry c))
+passed : (c : tie.After-enum-told) → accepted (tt {0}) ≡ checkTableCall (of (entry c))
 passed c = sym (ap doneOf (c .enum-told .given .1)) ∙ c .before .before .sound .ensures
 
 sound-requires : tie.Need-sound-requires

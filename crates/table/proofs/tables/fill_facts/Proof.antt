@@ -5,7 +5,7 @@ use mathlib.Core.Path.{_≡_, sym, _∙_, ap}
 use mathlib.Core.List.{List}
 use Rattle.meaning.specs.Tables.{Columns, columns}
 use Rattle.meaning.specs.Ladder.{accepted}
-use Rattle.meaning.specs.TypeCalls.{fillFacts}
+use Rattle.meaning.specs.TypeCalls.{fillFactsCall}
 use Rattle.answers.specs.Verdicts.{doneOf}
 use Rattle.table.proofs.Fillings.{fillable, fill-refused, fill-accepted}
 use Rattle.table.proofs.tables.fill_facts.Statement.{statement}
@@ -22,7 +22,7 @@ told c = c .args .groups .now
 abbrev entry : tie.After-enum-told → tie.Start
 entry c = c .before .before .before .before .before .before .before .before
 
-passed : (c : tie.After-enum-told) → accepted (tt {0}) ≡ fillFacts (entries (entry c)) (entry c .args .count) (told (entry c))
+passed : (c : tie.After-enum-told) → accepted (tt {0}) ≡ fillFactsCall (entries (entry c)) (entry c .args .count) (told (entry c))
 passed c = sym (ap doneOf (c .enum-told .given .1)) ∙ c .before .before .may-fill .ensures
 
 may-fill-requires : tie.Need-may-fill-requires

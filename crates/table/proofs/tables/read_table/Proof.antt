@@ -6,7 +6,7 @@ use mathlib.Core.Path.{_≡_, sym, _∙_, ap}
 use mathlib.Core.List.{List}
 use Rattle.meaning.specs.Tables.{Columns, columns}
 use Rattle.meaning.specs.Ladder.{accepted}
-use Rattle.meaning.specs.TypeCalls.{readTable}
+use Rattle.meaning.specs.TypeCalls.{readTableCall}
 use Rattle.answers.specs.Verdicts.{countOf}
 use Rattle.table.proofs.Readings.{readable, fillable-after, read-kept, read-written}
 use Rattle.table.proofs.tables.read_table.Statement.{statement}
@@ -29,7 +29,7 @@ entry c = c .before .before .before .before .before .before .before .before .bef
 abbrev counted : tie.After-known-told → ℕ
 counted c = c .before .judged .given .0 .0
 
-passed : (c : tie.After-known-told) → accepted (counted c) ≡ readTable (file (entry c)) (entries (entry c)) (told (entry c))
+passed : (c : tie.After-known-told) → accepted (counted c) ≡ readTableCall (file (entry c)) (entries (entry c)) (told (entry c))
 passed c = sym (ap countOf (c .before .judged .given .1)) ∙ c .before .before .before .may-read .ensures
 
 may-read-requires : tie.Need-may-read-requires

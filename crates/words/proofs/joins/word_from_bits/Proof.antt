@@ -33,7 +33,7 @@ of s =
     table (s .args .kinds .now) (s .args .lefts .now) (s .args .rights .now) (s .args .groups .now) (s .args .count)
 
 abbrev source : tie.Start → Stream
-source s = stream-of (s .args .bytes .now) (s .args .length) (s .args .position)
+source s = stream-of (s .args .bytes .now) (s .args .until) (s .args .position)
 
 abbrev ranges : tie.Start → Bool
 ranges s = ltb (s .args .n) 32
@@ -197,7 +197,7 @@ write-run-requires c κs =
 
 add-t24 : tie.Need-add-t24
 add-t24 c =
-    let i = inside (c .before .before .before .before .before .before .before .before .before .before .before) .begins in let r = c .before .before .before .before .before .before .if3 .left in let f = start (c .before .before .before .before .before .before .before .before .before .before .before) .fits .length in record { fits = omega arith }
+    let i = inside (c .before .before .before .before .before .before .before .before .before .before .before) .begins in let r = c .before .before .before .before .before .before .if3 .left in let f = start (c .before .before .before .before .before .before .before .before .before .before .before) .fits .until in record { fits = omega arith }
 
 same-length : tie.Need-same-length
 same-length c = search needs
