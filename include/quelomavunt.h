@@ -38,8 +38,8 @@
  * needs; what lies past it is neither judged nor changed. Each call checks the table it is handed. qv_read_table and
  * qv_fill_facts make the facts.
  *
- * A record is bytes, a bit offset and a node; bits run from the top of each byte. A stream is bytes, a length in
- * bits and a position in bits, which an accepted reading moves.
+ * A record is bytes, a bit offset and a node, its type; bits run from the top of each byte. A stream is `bytes`, the bit
+ * at which it ends (`until`, its length in bits) and a position in bits, which an accepted reading moves.
  *
  * A record that is made, read or cut starts at bit 0 of `out`, takes width / 8 bytes rounded up, and has zero bits
  * after its width; later bytes of `out` stay.
@@ -137,6 +137,10 @@ uint64_t qv_pad_right(
     QV_TABLE,
     uint64_t a, uint64_t b, uint64_t *padding);
 
+/* ---- Word types, buffer types and the hash state's type ---- */
+
+/* These never answer 3 or 4. */
+
 /* Accepted: `n` (0 to 31) if the node is exactly the word type of 2^n bits. Refuses: 1, 2, 7. */
 uint64_t qv_as_word(
     QV_TABLE,
@@ -177,7 +181,7 @@ uint64_t qv_as_product(
     QV_TABLE,
     const uint8_t *bytes, size_t bytes_len, uint64_t offset, uint64_t node, uint64_t *views, size_t views_len);
 
-/* ---- Comparison and lengths ---- */
+/* ---- Comparison ---- */
 
 /* Accepted: `answer` is 1 for the same class and the same bits, else 0. Refuses: 1 to 5. */
 uint64_t qv_equal(
@@ -190,6 +194,8 @@ uint64_t qv_compare(
     QV_TABLE,
     const uint8_t *a_bytes, size_t a_bytes_len, uint64_t a_offset, uint64_t a_node, const uint8_t *b_bytes,
     size_t b_bytes_len, uint64_t b_offset, uint64_t b_node, uint64_t *order);
+
+/* ---- Lengths ---- */
 
 /* Accepted: `bits` is the number of compact bits. Refuses: 1 to 5. */
 uint64_t qv_compact_len(
@@ -245,7 +251,7 @@ uint64_t qv_zero(
     QV_TABLE,
     uint64_t result, uint64_t *width, uint8_t *out, size_t out_len);
 
-/* ---- Words, buffers and the hash state ---- */
+/* ---- Words ---- */
 
 /* As constructors; numbers and bytes come big-endian. */
 
@@ -304,6 +310,10 @@ uint64_t qv_from_byte_array(
     QV_TABLE,
     const uint8_t *data, size_t data_len, uint64_t result, uint64_t *width, uint8_t *out, size_t out_len);
 
+/* ---- Words joined and read ---- */
+
+/* A join is as a constructor. */
+
 /* Two records of the same word type joined to the next word. Refuses: 1 to 5, 7, 9. */
 uint64_t qv_word_product(
     QV_TABLE,
@@ -317,6 +327,10 @@ uint64_t qv_word_from_bits(
     QV_TABLE,
     const uint8_t *bytes, size_t bytes_len, uint64_t until, uint64_t *position, uint64_t n, uint64_t node,
     uint8_t *out, size_t out_len);
+
+/* ---- Buffers and the hash state ---- */
+
+/* As constructors; numbers and bytes come big-endian. */
 
 /* The record of buffer type n with these bytes. Refuses: 1 to 4, 6 (n above 12, or more than 2^(n+1) - 1 bytes), 7, 9. */
 uint64_t qv_buffer8_two_n_plus_one(
@@ -336,13 +350,13 @@ uint64_t qv_ctx8(
 /* Readers: accepted, `position` is the next position, and the record is written at bit 0 of `out`.
  * Writers: accepted, `bits` is the number of bits written at bit 0 of `out`. */
 
-/* Reads compact bits; padding is zero. Refuses: 1 to 5, 8, 9. */
+/* Reads a record of the type `node` from compact bits; padding is zero. Refuses: 1 to 5, 8, 9. */
 uint64_t qv_from_compact_bits(
     QV_TABLE,
     const uint8_t *bytes, size_t bytes_len, uint64_t until, uint64_t *position, uint64_t node, uint8_t *out,
     size_t out_len);
 
-/* Reads padded bits; padding is kept as read. Refuses: 1 to 5, 8, 9. */
+/* Reads a record of the type `node` from padded bits; padding is kept as read. Refuses: 1 to 5, 8, 9. */
 uint64_t qv_from_padded_bits(
     QV_TABLE,
     const uint8_t *bytes, size_t bytes_len, uint64_t until, uint64_t *position, uint64_t node, uint8_t *out,

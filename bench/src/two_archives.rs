@@ -2,8 +2,8 @@
 //!
 //! `tools/bench-before` puts `before_` in front of every name of the earlier archive, so that both link together.
 //! `archive!` declares the timed calls of either from one text. It is told how the names start and what buffers a table
-//! is: an element's type, and how many elements each node takes. Before the groups a table was seven columns. A later
-//! commit that changes no signature gives both modules the same buffers; one that makes a group longer, another number.
+//! is: an element's type, and how many elements each node takes. A commit that changes no signature gives both modules
+//! the same buffers; one that makes a group longer, another number.
 
 use crate::measure::{words, Effort};
 use crate::subjects::{small, small_types};
@@ -139,10 +139,7 @@ mod before {
         kinds: u8, 1;
         lefts: u16, 1;
         rights: u16, 1;
-        widths: u64, 1;
-        sizes: u64, 1;
-        padded: u8, 1;
-        classes: u16, 1;
+        groups: u8, 19;
     }
 }
 

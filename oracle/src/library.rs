@@ -1,18 +1,20 @@
 //! A request for any call of the port, and its answer: the one form in which all sides are asked.
 //!
-//! * `Call`: the calls, by the names of the C header without its prefix
+//! * `Call`: the calls of include/calls.list, by the names of the C header without its prefix
 //! * `Columns`, `OwnedColumns`: a table with its facts, borrowed and owned; `Facts`: those of one node, read again
 //! * `Record`, `Stream`: bytes with an offset and a node; bytes with a length and a position, in bits
 //! * `Request`: one call with everything handed in, and what lies in the lent outputs before
 //! * `Answer`: the result, and what lies in the lent outputs, columns, groups and position after
 //! * `Library`: whoever answers (the model, or the archive through its C interface)
 
-/// Declares the calls with their names and the number of accepted values.
+/// Declares the calls: each with its number in recorded lists, its name, how many accepted values it gives, and
+/// whether it has a table, a stream and an output.
 macro_rules! calls {
-    ($($call:ident $name:literal $values:literal,)*) => {
-        /// The calls of the port.
-        #[derive(Clone, Copy, PartialEq, Eq, Debug, PartialOrd, Ord, Hash)]
-        pub enum Call { $(#[doc = $name] $call,)* }
+    ($($call:ident = $number:literal, $name:literal, values $values:literal,
+       table $table:literal, stream $stream:literal, out $out:literal;)*) => {
+        /// The calls of the port, by the numbers that they have in recorded lists.
+        #[derive(Clone, Copy, PartialEq, Eq, Debug, Hash)]
+        pub enum Call { $(#[doc = $name] $call = $number,)* }
 
         impl Call {
             /// Every call, in the order of the C header.
@@ -27,87 +29,94 @@ macro_rules! calls {
             pub fn value_count(self) -> usize {
                 match self { $(Call::$call => $values,)* }
             }
+
+            /// Whether the call is handed a table with its facts.
+            pub fn takes_a_table(self) -> bool {
+                match self { $(Call::$call => $table,)* }
+            }
+
+            /// Whether the call reads a stream and moves its position.
+            pub fn reads_a_stream(self) -> bool {
+                match self { $(Call::$call => $stream,)* }
+            }
+
+            /// Whether the call writes a record or bits to `out`.
+            pub fn writes_out(self) -> bool {
+                match self { $(Call::$call => $out,)* }
+            }
         }
     };
 }
 
 calls! {
-    ReadTable "read_table" 1,
-    FillFacts "fill_facts" 0,
-    CheckTable "check_table" 0,
-    FactsOf "facts_of" 7,
-    SameType "same_type" 1,
-    IsUnit "is_unit" 1,
-    IsEmpty "is_empty" 1,
-    TypeAsSum "type_as_sum" 2,
-    TypeAsProduct "type_as_product" 2,
-    PadLeft "pad_left" 1,
-    PadRight "pad_right" 1,
-    AsWord "as_word" 1,
-    WordWidth "word_width" 1,
-    BufferWidth "buffer_width" 1,
-    IsBuffer8 "is_buffer8" 1,
-    IsCtx8 "is_ctx8" 1,
-    AsLeft "as_left" 2,
-    AsRight "as_right" 2,
-    AsProduct "as_product" 4,
-    Equal "equal" 1,
-    Compare "compare" 1,
-    CompactLen "compact_len" 1,
-    PaddedLen "padded_len" 1,
-    Unit "unit" 1,
-    Left "left" 1,
-    Right "right" 1,
-    Product "product" 1,
-    None "none" 1,
-    Some "some" 1,
-    Zero "zero" 1,
-    U1 "u1" 1,
-    U2 "u2" 1,
-    U4 "u4" 1,
-    U8 "u8" 1,
-    U16 "u16" 1,
-    U32 "u32" 1,
-    U64 "u64" 1,
-    U128 "u128" 1,
-    U256 "u256" 1,
-    U512 "u512" 1,
-    FromByteArray "from_byte_array" 1,
-    WordProduct "word_product" 1,
-    WordFromBits "word_from_bits" 0,
-    Buffer8TwoNPlusOne "buffer8_two_n_plus_one" 1,
-    Ctx8 "ctx8" 1,
-    FromCompactBits "from_compact_bits" 0,
-    FromPaddedBits "from_padded_bits" 0,
-    ToCompactBits "to_compact_bits" 1,
-    ToPaddedBits "to_padded_bits" 1,
-    Prune "prune" 1,
+    // calls.list begins: tools/calls writes what stands up to its end.
+    ReadTable = 0, "read_table", values 1, table false, stream false, out false;
+    FillFacts = 1, "fill_facts", values 0, table false, stream false, out false;
+    CheckTable = 2, "check_table", values 0, table true, stream false, out false;
+    FactsOf = 3, "facts_of", values 7, table true, stream false, out false;
+    SameType = 4, "same_type", values 1, table true, stream false, out false;
+    IsUnit = 5, "is_unit", values 1, table true, stream false, out false;
+    IsEmpty = 6, "is_empty", values 1, table true, stream false, out false;
+    TypeAsSum = 7, "type_as_sum", values 2, table true, stream false, out false;
+    TypeAsProduct = 8, "type_as_product", values 2, table true, stream false, out false;
+    PadLeft = 9, "pad_left", values 1, table true, stream false, out false;
+    PadRight = 10, "pad_right", values 1, table true, stream false, out false;
+    AsWord = 11, "as_word", values 1, table true, stream false, out false;
+    WordWidth = 12, "word_width", values 1, table false, stream false, out false;
+    BufferWidth = 13, "buffer_width", values 1, table false, stream false, out false;
+    IsBuffer8 = 14, "is_buffer8", values 1, table true, stream false, out false;
+    IsCtx8 = 15, "is_ctx8", values 1, table true, stream false, out false;
+    AsLeft = 16, "as_left", values 2, table true, stream false, out false;
+    AsRight = 17, "as_right", values 2, table true, stream false, out false;
+    AsProduct = 18, "as_product", values 4, table true, stream false, out false;
+    Equal = 19, "equal", values 1, table true, stream false, out false;
+    Compare = 20, "compare", values 1, table true, stream false, out false;
+    CompactLen = 21, "compact_len", values 1, table true, stream false, out false;
+    PaddedLen = 22, "padded_len", values 1, table true, stream false, out false;
+    Unit = 23, "unit", values 1, table true, stream false, out true;
+    Left = 24, "left", values 1, table true, stream false, out true;
+    Right = 25, "right", values 1, table true, stream false, out true;
+    Product = 26, "product", values 1, table true, stream false, out true;
+    None = 27, "none", values 1, table true, stream false, out true;
+    Some = 28, "some", values 1, table true, stream false, out true;
+    Zero = 29, "zero", values 1, table true, stream false, out true;
+    U1 = 30, "u1", values 1, table true, stream false, out true;
+    U2 = 31, "u2", values 1, table true, stream false, out true;
+    U4 = 32, "u4", values 1, table true, stream false, out true;
+    U8 = 33, "u8", values 1, table true, stream false, out true;
+    U16 = 34, "u16", values 1, table true, stream false, out true;
+    U32 = 35, "u32", values 1, table true, stream false, out true;
+    U64 = 36, "u64", values 1, table true, stream false, out true;
+    U128 = 37, "u128", values 1, table true, stream false, out true;
+    U256 = 38, "u256", values 1, table true, stream false, out true;
+    U512 = 39, "u512", values 1, table true, stream false, out true;
+    FromByteArray = 40, "from_byte_array", values 1, table true, stream false, out true;
+    WordProduct = 41, "word_product", values 1, table true, stream false, out true;
+    WordFromBits = 42, "word_from_bits", values 0, table true, stream true, out true;
+    Buffer8TwoNPlusOne = 43, "buffer8_two_n_plus_one", values 1, table true, stream false, out true;
+    Ctx8 = 44, "ctx8", values 1, table true, stream false, out true;
+    FromCompactBits = 45, "from_compact_bits", values 0, table true, stream true, out true;
+    FromPaddedBits = 46, "from_padded_bits", values 0, table true, stream true, out true;
+    ToCompactBits = 47, "to_compact_bits", values 1, table true, stream false, out true;
+    ToPaddedBits = 48, "to_padded_bits", values 1, table true, stream false, out true;
+    Prune = 49, "prune", values 1, table true, stream false, out true;
+    // calls.list ends
 }
 
 impl Call {
-    /// The call's place in `Call::ALL`.
+    /// The call's number in recorded lists: from 0, below the number of calls.
     pub fn number(self) -> usize {
         self as usize
+    }
+
+    /// The call that has this number.
+    pub fn of_number(number: usize) -> Option<Call> {
+        Call::ALL.iter().copied().find(|call| call.number() == number)
     }
 
     /// Whether the accepted values go to a slice, which may be too short, and not to a single number.
     pub fn values_are_a_slice(self) -> bool {
         self.value_count() > 1
-    }
-
-    /// Whether the call reads a stream and moves its position.
-    pub fn reads_a_stream(self) -> bool {
-        matches!(self, Call::WordFromBits | Call::FromCompactBits | Call::FromPaddedBits)
-    }
-
-    /// Whether the call writes a record or bits to `out`.
-    pub fn writes_out(self) -> bool {
-        self >= Call::Unit
-    }
-
-    /// Whether the call is handed a table with its facts.
-    pub fn takes_a_table(self) -> bool {
-        !matches!(self, Call::ReadTable | Call::FillFacts | Call::WordWidth | Call::BufferWidth)
     }
 }
 

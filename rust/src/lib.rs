@@ -28,30 +28,38 @@
 //!
 //! | module | what it has |
 //! |---|---|
-//! | [`Table`], `types` | tables, files, and questions about types |
-//! | `records` | views, equality, order, lengths |
-//! | `constructors`, `words` | records made from parts, numbers and bytes |
-//! | `codecs` | compact and padded readers and writers, the cut |
+//! | [`Table`], `tables`, `types`, `word_types` | tables, files, and questions about types |
+//! | [`Record`], `views`, `comparing`, `lengths` | records: their parts, equality and order, lengths |
+//! | `constructors`, `words`, `joins`, `buffers` | records made from parts, numbers and bytes |
+//! | `codecs`, `cuts` | compact and padded readers and writers, the cut |
 //! | [`raw`] | the exported calls as they are; the only unsafe code |
 
 #![deny(unsafe_code)]
 #![warn(missing_docs)]
 
+mod buffers;
 mod codecs;
+mod comparing;
 mod constructors;
+mod cuts;
+mod joins;
+mod lengths;
 pub mod raw;
 mod records;
 mod refusal;
 pub mod samples;
-mod table;
+mod tables;
 mod types;
+mod views;
+mod word_types;
 mod words;
 
+pub use buffers::HashState;
 pub use records::{Record, Stream};
 pub use refusal::Refusal;
-pub use table::Table;
+pub use tables::Table;
 pub use types::{Facts, Shape};
-pub use words::{HashState, buffer_width, word_width};
+pub use word_types::{buffer_width, word_width};
 
 /// The bytes that so many bits take: a record's output must be that long.
 ///

@@ -134,6 +134,7 @@ macro_rules! calls {
 }
 
 calls! {
+    // calls.list begins: tools/calls writes what stands up to its end.
     /// Reads a table file.
     fn read_table = "qv_read_table"(bytes file, columns, value count);
     /// Computes a table's facts.
@@ -219,19 +220,20 @@ calls! {
     /// Two words joined.
     fn word_product = "qv_word_product"(table, record a, record b, number result, value width, out);
     /// A word read from a stream.
-    fn word_from_bits = "qv_word_from_bits"(table, bytes bytes, number length, value position, number n, number node, out);
+    fn word_from_bits = "qv_word_from_bits"(table, bytes bytes, number until, value position, number n, number node, out);
     /// A buffer.
     fn buffer8_two_n_plus_one = "qv_buffer8_two_n_plus_one"(table, number n, bytes data, number result, value width, out);
     /// A hash state.
     fn ctx8 = "qv_ctx8"(table, bytes midstate, number bytes_hashed, bytes buffer, number result, value width, out);
     /// A record read from compact bits.
-    fn from_compact_bits = "qv_from_compact_bits"(table, bytes bytes, number length, value position, number node, out);
+    fn from_compact_bits = "qv_from_compact_bits"(table, bytes bytes, number until, value position, number node, out);
     /// A record read from padded bits.
-    fn from_padded_bits = "qv_from_padded_bits"(table, bytes bytes, number length, value position, number node, out);
+    fn from_padded_bits = "qv_from_padded_bits"(table, bytes bytes, number until, value position, number node, out);
     /// A record's compact bits.
     fn to_compact_bits = "qv_to_compact_bits"(table, record record, value bits, out);
     /// A record's padded bits.
     fn to_padded_bits = "qv_to_padded_bits"(table, record record, value bits, out);
     /// A record cut down to another type.
     fn prune = "qv_prune"(table, record record, number target, value width, out);
+    // calls.list ends
 }

@@ -9,8 +9,7 @@ use support::*;
 const FAR: [u64; 4] = [u64::MAX, u64::MAX - 7, 1 << 63, 1 << 61];
 
 #[test]
-fn there_are_fifty_calls_and_each_accepts_its_good_world() {
-    assert_eq!(calls().len(), 50);
+fn every_call_accepts_its_good_world() {
     for call in calls() {
         let after = call.accepts(call.good_world(), "the good world");
         if let Some(needed) = call.out {

@@ -39,10 +39,9 @@ abbrev pub sidesOf : SidesAnswer → Answer types.Sides
 sidesOf (SidesAnswer.Are s) = accepted (record { leftNode = s .left; rightNode = s .right })
 sidesOf (SidesAnswer.Refused r) = refusalOf r
 
-abbrev pub factsOf : FactsAnswer → Answer tables.NodeFacts
-factsOf (FactsAnswer.Are f) =
-    accepted
-    (record {
+abbrev pub nodeFacts : Facts → tables.NodeFacts
+nodeFacts f =
+    record {
       widthOf = f .width;
       sizeOf = f .size;
       paddedOf = f .padded;
@@ -50,7 +49,10 @@ factsOf (FactsAnswer.Are f) =
       kindOf = f .kind;
       leftNode = f .left;
       rightNode = f .right;
-    })
+    }
+
+abbrev pub factsOf : FactsAnswer → Answer tables.NodeFacts
+factsOf (FactsAnswer.Are f) = accepted (nodeFacts f)
 factsOf (FactsAnswer.Refused r) = refusalOf r
 
 abbrev pub spot : Spot → records.Spot

@@ -1,5 +1,4 @@
 -- The laws of bits and bytes, for this crate and those above it.
-pub mod Comparing
 pub mod Lent
 pub mod Numbers
 pub mod OfBytes

@@ -1,3 +1,2 @@
--- What the contracts of `bits` cite beside the definitions of `meaning`.
-pub mod Alike
+-- What the contracts of the crates of bits cite beside the definitions of `meaning`.
 pub mod Runs

@@ -21,8 +21,10 @@ use Rattle.meaning.specs.Ladder.{accepted, Record, stream-of, Stream, typeAt, t
 use Rattle.meaning.specs.CodecCalls.{compactBits, fromCompactCall, fromCompactOut, fromPaddedCall, fromPaddedOut, toCompactCall, toCompactOut, toPaddedCall, toPaddedOut}
 use Rattle.bits.proofs.Packed.{bitsOf-written, length-written}
 use Rattle.laws.proofs.RecordPrefixes.{Begins}
-use Rattle.codec.proofs.ReadLaws.{Admitted, at-zero, compact-got, padded-got, compact-reads, padded-reads}
-use Rattle.codec.proofs.WriteLaws.{Held, WrittenOut, held-width, compact-wrote, padded-wrote, compact-writes, padded-writes}
+use Rattle.checked.specs.Passed.{Streamed}
+use Rattle.checked.proofs.Lent.{own-length}
+use Rattle.codec.proofs.ReadLaws.{at-zero, compact-got, padded-got, compact-reads, padded-reads}
+use Rattle.codec.proofs.WriteLaws.{WrittenOut, compact-wrote, padded-wrote, compact-writes, padded-writes}
 
 -- Bits that were written begin the stream of the output, however far that goes past them.
 begin : (v : List Bool) (out : List ℕ) (u : ℕ) → length v ≤ u → Begins v (restOf (stream-of (written v out) u 0))
@@ -37,13 +39,13 @@ begin v out u l =
     )
 
 -- The stream of an output that a writer has written: up to some bit after the last one written.
-stream-admitted : (t : Table) (r : Record) (v : List Bool) (out after : List ℕ) (n u : ℕ) → WrittenOut t r v out n → after ≡ written v out
-    → u ≤ 8 * length out → Admitted t (stream-of after u 0) (r .node)
-stream-admitted t r v out after n u w e h =
+streamed : (t : Table) (r : Record) (v : List Bool) (out after : List ℕ) (n u : ℕ) → WrittenOut t r v out n → after ≡ written v out
+    → u ≤ 8 * length out → Streamed t (stream-of after u 0) (r .node)
+streamed t r v out after n u w e h =
     record {
-      sound = w .held .sound;
-      allowed = w .held .allowed;
-      fits = record { ends = omega (arith, ap length e, length-written v out (w .has-room)); begins = omega arith };
+      named = w .held .named;
+      ends = omega (arith, ap length e, length-written v out (w .has-room));
+      begins = omega arith;
     }
 
 module _ (t : Table) (r : Record) (out next-out : List ℕ) (n u : ℕ) (l : n ≤ u) (h : u ≤ 8 * length out)
@@ -60,7 +62,7 @@ module _ (t : Table) (r : Record) (out next-out : List ℕ) (n u : ℕ) (l : n �
       (begin (compactBits t r) out u (omega (arith, w .count))) in
       let got =
       compact-reads t s (r .node) next-out (recordBits t r)
-      (stream-admitted t r (compactBits t r) out (toCompactOut t r out) n u w (w .output) h)
+      (streamed t r (compactBits t r) out (toCompactOut t r out) n u w (w .output) h)
       b
       room-left in
       (got .0 ∙ ap accepted (zero-add (length (compactBits t r)) ∙ sym (w .count)), got .1)
@@ -75,13 +77,13 @@ module _ (t : Table) (r : Record) (out next-out : List ℕ) (n u : ℕ) (l : n �
   padded-write-read c =
       let w = padded-wrote t r out n c in
       let s = stream-of (toPaddedOut t r out) u 0 in
-      let wide = held-width t r (w .held) in
+      let wide = own-length t r (w .held) in
       let b : Begins (recordBits t r) (restOf s) =
       subst (λ (o : List ℕ). Begins (recordBits t r) (restOf (stream-of o u 0))) (sym (w .output))
       (begin (recordBits t r) out u (omega (arith, w .count))) in
       let got =
       padded-reads t s (r .node) next-out (recordBits t r)
-      (stream-admitted t r (recordBits t r) out (toPaddedOut t r out) n u w (w .output) h)
+      (streamed t r (recordBits t r) out (toPaddedOut t r out) n u w (w .output) h)
       wide
       b
       room-left in
@@ -95,8 +97,7 @@ module _ (t : Table) (s : Stream) (node : ℕ) (out next-out : List ℕ) (next :
       let g = compact-got t s node out next c in
       let r = at-zero (fromCompactOut t s node out) node in
       let n : length (compactBits t r) ≡ next - s .position = omega (arith, g .consumed-count) in
-      let w : Held t r = record { sound = g .admitted .sound; allowed = g .admitted .allowed; inside = g .inside } in
-      let put = compact-writes t r next-out w (subst (λ (k : ℕ). room k ≤ length next-out) (sym n) l) in
+      let put = compact-writes t r next-out (g .held) (subst (λ (k : ℕ). room k ≤ length next-out) (sym n) l) in
       (put .0 ∙ ap accepted n, put .1 ∙ ap (λ (v : List Bool). written v next-out) (g .consumed-bits))
 
   pub padded-read-write : fromPaddedCall t s node out ≡ accepted next → room (next - s .position) ≤ length next-out
@@ -105,10 +106,9 @@ module _ (t : Table) (s : Stream) (node : ℕ) (out next-out : List ℕ) (next :
   padded-read-write c l =
       let g = padded-got t s node out next c in
       let r = at-zero (fromPaddedOut t s node out) node in
-      let w : Held t r = record { sound = g .admitted .sound; allowed = g .admitted .allowed; inside = g .inside } in
       let b : bits (typeAt t node) ≡ next - s .position = omega (arith, g .consumed-count) in
-      let n : length (recordBits t r) ≡ next - s .position = held-width t r w ∙ b in
-      let put = padded-writes t r next-out w (subst (λ (k : ℕ). room k ≤ length next-out) (sym n) l) in (
+      let n : length (recordBits t r) ≡ next - s .position = own-length t r (g .held) ∙ b in
+      let put = padded-writes t r next-out (g .held) (subst (λ (k : ℕ). room k ≤ length next-out) (sym n) l) in (
         put .0 ∙ ap accepted n,
         put .1 ∙ ap (λ (v : List Bool). written v next-out) (g .as-read ∙ ap (λ (k : ℕ). take k (restOf s)) b),
       )

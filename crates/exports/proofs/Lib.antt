@@ -2,8 +2,5 @@
 mod Places
 mod Offsets
 mod Nears
-mod Crossing
-mod Fronts
 mod States
-pub mod Results
 pub mod LayoutStates

@@ -10,7 +10,7 @@ use Rattle.meaning.specs.RecordCalls as records
 use Rattle.meaning.specs.WordCalls as words
 use Rattle.meaning.specs.CodecCalls as codecs
 use Rattle.meaning.specs.CutCalls as cuts
-use Rattle.exports.specs.Codes.{Near}
+use Rattle.exports_answers.specs.Codes.{Near}
 use Rattle.exports.specs.Handed.{ctx8Handed}
 use Rattle.exports.proofs.Places.{flat-near, sound-near}
 

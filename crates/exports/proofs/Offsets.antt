@@ -2,7 +2,7 @@
 --
 --   Ends                        a reading that ends, or finds its fault, at most at an offset
 --   ends-then                   one reading after another
---   groups-ends number-ends entry-ends entries-ends table-ends      each reading of a file
+--   numberAt-ends number-ends entry-ends entries-ends table-ends    each reading of a file
 --   read-near                   `read_table`
 -- Assumes nothing.
 use Prim.Native.Nat.{ℕ, zero, suc, _+_, _*_, _%_, _≤_, _<_}
@@ -15,11 +15,11 @@ use lib.ListN.{length, getD}
 use lib.Dec.{ltb, leb}
 use borrow.Author.Tests.{leb-true}
 use Rattle.meaning.specs.Tables.{Columns, countRight}
-use Rattle.meaning.specs.Files.{Reading, faulty, found, andThen, groups, number, Entry, entryOf, entryFrom, entriesFrom, ended, tableIn}
+use Rattle.meaning.specs.Files.{Reading, faulty, found, andThen, sevenBitGroups, numberAt, number, Entry, entryOf, entryFrom, entriesFrom, ended, tableIn}
 use Rattle.meaning.specs.Ladder.{Rung, rung, ladder}
 use Rattle.meaning.specs.TypeCalls.{fileRung, readTableCall}
 use Rattle.meaning.proofs.Tests.{and-right}
-use Rattle.exports.specs.Codes.{Near}
+use Rattle.exports_answers.specs.Codes.{Near}
 use Rattle.exports.proofs.Places.{flat, flat-near}
 
 -- A reading that ends at most at an offset, as its fault does, and of which what was read is as it should be.
@@ -41,18 +41,34 @@ further : {A : Type 0} (P : A → Type 0) (m n : ℕ) (r : Reading A) → m ≤ 
 further P m n (faulty p) l e = omega arith
 further P m n (found a at) l e = (let h = e .0 in omega arith, e .1)
 
-groups-ends : (file : List ℕ) (at : ℕ) → Ends Any (at + 2) (groups file at)
-unfolding groups
-groups-ends file at =
-    there (ltb at (length file)) (ltb (getD file at 0) 128)
-    (ltb (at + 1) (length file) && leb 1 (getD file (at + 1) 0) && ltb (getD file (at + 1) 0) 128)
+-- The groups of a number from one of them on, of which at most k are left.
+groups-end : (k : ℕ) (file : List ℕ) (first at : ℕ) → first ≤ at → Ends Any (at + k) (sevenBitGroups k file first at)
+unfolding sevenBitGroups
+groups-end zero file first at l = omega arith
+groups-end (suc k) file first at l =
+    there (groups-end k file first (at + 1) (omega arith)) (ltb at (length file)) (ltb (getD file at 0) 128)
   where
-    there : (a b c : Bool)
-        → Ends Any (at + 2) (cond a (cond b (found (getD file at 0) (at + 1)) (cond c (found (getD file at 0 % 128 + 128 * getD file (at + 1) 0) (at + 2)) (faulty at))) (faulty at))
-    there true true c = (omega arith, tt)
-    there true false true = (omega arith, tt)
-    there true false false = omega arith
-    there false b c = omega arith
+    followed : (n next : ℕ) → next ≤ at + 1 + k → (b : Bool) → Ends Any (at + suc k) (cond b (found n next) (faulty first))
+    followed n next h true = (omega arith, tt)
+    followed n next h false = omega arith
+
+    there : Ends Any (at + 1 + k) (sevenBitGroups k file first (at + 1)) → (a b : Bool)
+        → Ends Any (at + suc k)
+        (cond a
+        (cond b (found (getD file at 0) (at + 1))
+        (andThen (sevenBitGroups k file first (at + 1))
+        (λ rest next. cond (leb 1 rest) (found (getD file at 0 % 128 + 128 * rest) next) (faulty first))))
+        (faulty first))
+    there more true true = (omega arith, tt)
+    there more true false =
+        ends-then Any Any (at + 1 + k) (at + suc k) (sevenBitGroups k file first (at + 1))
+        (λ rest next. cond (leb 1 rest) (found (getD file at 0 % 128 + 128 * rest) next) (faulty first))
+        (omega arith) more
+        (λ rest next h u. followed (getD file at 0 % 128 + 128 * rest) next h (leb 1 rest))
+    there more false b = omega arith
+
+numberAt-ends : (file : List ℕ) (at : ℕ) → Ends Any (at + 2) (numberAt file at)
+numberAt-ends file at = groups-end 2 file at at (omega arith)
 
 -- A number, which passes its test where it was found.
 abbrev Passes : (ℕ → Bool) → ℕ → Type 0
@@ -60,8 +76,8 @@ Passes test n = test n ≡ true
 
 number-ends : (test : ℕ → Bool) (file : List ℕ) (at : ℕ) → Ends (Passes test) (at + 2) (number test file at)
 number-ends test file at =
-    ends-then Any (Passes test) (at + 2) (at + 2) (groups file at) (λ n next. cond (test n) (found n next) (faulty at)) (omega arith)
-    (groups-ends file at)
+    ends-then Any (Passes test) (at + 2) (at + 2) (numberAt file at) (λ n next. cond (test n) (found n next) (faulty at)) (omega arith)
+    (numberAt-ends file at)
     (λ n next l u. tested n next l (test n) refl)
   where
     tested : (n next : ℕ) → next ≤ at + 2 → (b : Bool) → test n ≡ b → Ends (Passes test) (at + 2) (cond b (found n next) (faulty at))

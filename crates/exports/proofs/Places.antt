@@ -17,7 +17,7 @@ use Rattle.meaning.specs.Ladder.{Rung, rung, ladder}
 use Rattle.meaning.specs.TypeCalls.{fillFactsCall}
 use Rattle.meaning.proofs.Tests.{and-left, and-right}
 use Rattle.meaning.proofs.Ladders.{shapeRight, shape-right}
-use Rattle.exports.specs.Codes.{Near}
+use Rattle.exports_answers.specs.Codes.{Near}
 
 -- Every rung's place is 0.
 abbrev pub flat : List Rung → Bool

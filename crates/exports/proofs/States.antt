@@ -19,8 +19,8 @@ use Rattle.meaning.specs.Bits.{toBits, bitsOf, written}
 use Rattle.meaning.specs.Words.{bufferBits, ctx8, ctx8Bits}
 use Rattle.meaning.specs.Ladder.{Rung, rung, ladder, kept, typeAt, named, ranged, shaped, roomFor, makes, made}
 use Rattle.meaning.specs.WordCalls.{ctx8Call, ctx8Out}
-use Rattle.words.specs.declared.HashState.{HashState}
-use Rattle.words.specs.State.{stateOf}
+use Rattle.words_states.specs.declared.HashState.{HashState}
+use Rattle.words_states.specs.State.{stateOf}
 use Rattle.exports.specs.Handed.{inRange, handedState, ctx8Handed, ctx8HandedOut, Stands}
 
 pub no-stand : (m : List ℕ) (k : ℕ) (b : List ℕ) (s : HashState) → s .used ≡ 64 → inRange m b ≡ false → Stands m k b s

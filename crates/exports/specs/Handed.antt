@@ -16,8 +16,8 @@ use Rattle.meaning.specs.Words as meant
 use Rattle.meaning.specs.Words.{ctx8, ctx8Bits}
 use Rattle.meaning.specs.Ladder.{Answer, Rung, typeAt, makes, made}
 use Rattle.meaning.specs.WordCalls.{fromRange}
-use Rattle.words.specs.declared.HashState.{HashState}
-use Rattle.words.specs.State.{stateOf}
+use Rattle.words_states.specs.declared.HashState.{HashState}
+use Rattle.words_states.specs.State.{stateOf}
 
 -- A hash state has thirty-two midstate bytes and at most sixty-three buffered ones.
 abbrev pub inRange : List ℕ → List ℕ → Bool

@@ -1,10 +1,10 @@
 // The two codecs, for C. A reader moves the position; a writer answers how many bits it has written. Both write from bit 0 of the output on.
-use crate::told::tell_count;
+use exports_answers::tell_count;
 ghost use mathlib.Core.Path.{_≡_};
 ghost use Rattle.meaning.specs.Tables.{table};
 ghost use Rattle.meaning.specs.Ladder.{record-of, stream-of};
 ghost use Rattle.meaning.specs.CodecCalls.{fromCompactCall, fromCompactOut, fromPaddedCall, fromPaddedOut, toCompactCall, toCompactOut, toPaddedCall, toPaddedOut};
-ghost use Rattle.exports.specs.Codes.{code, stored};
+ghost use Rattle.exports_answers.specs.Codes.{code, stored};
 
 // Reads a record from its compact bits; padding is zero. Accepted: the next position.
 #[no_mangle]

@@ -1,10 +1,10 @@
 // Constructors for C. Accepted: the width of the result, whose record stands at bit 0 of the output.
-use crate::told::tell_count;
+use exports_answers::tell_count;
 ghost use mathlib.Core.Path.{_≡_};
 ghost use Rattle.meaning.specs.Tables.{table};
 ghost use Rattle.meaning.specs.Ladder.{record-of};
 ghost use Rattle.meaning.specs.RecordCalls.{unitCall, unitOut, leftCall, leftOut, rightCall, rightOut, productCall, productOut, noneCall, noneOut, someCall, someOut, zeroCall, zeroOut};
-ghost use Rattle.exports.specs.Codes.{code, stored};
+ghost use Rattle.exports_answers.specs.Codes.{code, stored};
 
 // The record of unit.
 #[no_mangle]
@@ -24,6 +24,28 @@ pub extern "C" fn qv_unit(
 {
     tell_count(
         value::unit(kinds, lefts, rights, groups, count, result, out),
+        width,
+    )
+}
+
+// The record of zero bits, of any type.
+#[no_mangle]
+pub extern "C" fn qv_zero(
+    kinds: &[u8],
+    lefts: &[u16],
+    rights: &[u16],
+    groups: &[u8],
+    count: usize,
+    result: usize,
+    width: &mut u64,
+    out: &mut [u8],
+) -> u64
+    ensures { λ r. ⌜ r ≡ code (zeroCall (table (now (kinds .entry)) (now (lefts .entry)) (now (rights .entry)) (now (groups .entry)) count) result (now (out .entry))) ⌝ }
+    ensures { λ _. ⌜ now (width .exit) ≡ stored (zeroCall (table (now (kinds .entry)) (now (lefts .entry)) (now (rights .entry)) (now (groups .entry)) count) result (now (out .entry))) (now (width .entry)) ⌝ }
+    ensures { λ _. ⌜ now (out .exit) ≡ zeroOut (table (now (kinds .entry)) (now (lefts .entry)) (now (rights .entry)) (now (groups .entry)) count) result (now (out .entry)) ⌝ }
+{
+    tell_count(
+        value::zero(kinds, lefts, rights, groups, count, result, out),
         width,
     )
 }
@@ -196,28 +218,6 @@ pub extern "C" fn qv_some(
             result,
             out,
         ),
-        width,
-    )
-}
-
-// The record of zero bits, of any type.
-#[no_mangle]
-pub extern "C" fn qv_zero(
-    kinds: &[u8],
-    lefts: &[u16],
-    rights: &[u16],
-    groups: &[u8],
-    count: usize,
-    result: usize,
-    width: &mut u64,
-    out: &mut [u8],
-) -> u64
-    ensures { λ r. ⌜ r ≡ code (zeroCall (table (now (kinds .entry)) (now (lefts .entry)) (now (rights .entry)) (now (groups .entry)) count) result (now (out .entry))) ⌝ }
-    ensures { λ _. ⌜ now (width .exit) ≡ stored (zeroCall (table (now (kinds .entry)) (now (lefts .entry)) (now (rights .entry)) (now (groups .entry)) count) result (now (out .entry))) (now (width .entry)) ⌝ }
-    ensures { λ _. ⌜ now (out .exit) ≡ zeroOut (table (now (kinds .entry)) (now (lefts .entry)) (now (rights .entry)) (now (groups .entry)) count) result (now (out .entry)) ⌝ }
-{
-    tell_count(
-        value::zero(kinds, lefts, rights, groups, count, result, out),
         width,
     )
 }

@@ -1,10 +1,10 @@
 // Tables for C: from a file, from entries, and the check.
-use crate::told::tell_count;
-use crate::told::tell_done;
+use exports_answers::tell_count;
+use exports_answers::tell_done;
 ghost use mathlib.Core.Path.{_≡_};
 ghost use Rattle.meaning.specs.Tables.{table, columns};
 ghost use Rattle.meaning.specs.TypeCalls.{checkTableCall, fillFactsCall, fillFactsOut, readTableCall, readTableColumnsOut, readTableGroupsOut};
-ghost use Rattle.exports.specs.Codes.{code, stored};
+ghost use Rattle.exports_answers.specs.Codes.{code, stored};
 
 // Reads a table from its file into lent columns, with the groups of its facts. Accepted: its count.
 #[no_mangle]

@@ -1,11 +1,11 @@
 // Views of a record for C: the caller's bytes at another offset and node.
-use crate::told::tell_view;
-use crate::told::tell_views;
+use exports_answers::tell_view;
+use exports_answers::tell_views;
 ghost use mathlib.Core.Path.{_≡_};
 ghost use Rattle.meaning.specs.Tables.{table};
 ghost use Rattle.meaning.specs.Ladder.{record-of};
 ghost use Rattle.meaning.specs.RecordCalls.{asLeftCall, asRightCall, asProductCall};
-ghost use Rattle.exports.specs.Codes.{code, roomy, storedAll, spotList, spotsList};
+ghost use Rattle.exports_answers.specs.Codes.{code, roomy, storedAll, spotList, spotsList};
 
 // Accepted: offset and node of the payload of a left record.
 #[no_mangle]

@@ -14,23 +14,24 @@ use Rattle.meaning.specs.Groups.{group, groupSize}
 use Rattle.meaning.specs.Tables.{Columns, factsIn}
 use Rattle.meaning.specs.TypeCalls.{groupOf, groupsOf, groupsWritten}
 use Rattle.meaning.proofs.GroupLaws.{length-groupsWritten, groups-more, written-right}
-use Rattle.facts.specs.Known.{FullReach, Known, Told, Fillable}
-use Rattle.facts.specs.declared.Found.{Found}
+use Rattle.facts.specs.Known.{FullReach, Known, Fillable}
+use Rattle.facts_sides.specs.Derived.{Derived}
+use Rattle.facts_sides.specs.declared.Found.{Found}
 
 pub filled-none : (c : Columns) (old : List ℕ) → old ≡ groupsWritten c 0 old
 unfolding groupsOf
 filled-none c old = refl
 
 module _ (c : Columns) (n : ℕ) (old new : List ℕ) (done : new ≡ groupsWritten c n old) where
-  pub filled-more : (after : List ℕ) (r : Found) → Told c n r
+  pub filled-more : (after : List ℕ) (r : Found) → Derived c n r
       → after ≡ paste new (groupSize * n) (group (r .width) (r .size) (r .padded) (r .class)) groupSize
       → after ≡ groupsWritten c (n + 1) old
   unfolding groupOf
   filled-more after r t e =
-      let w = t .width-told in
-      let s = t .size-told in
-      let p = t .padded-told in
-      let q = t .class-told in
+      let w = t .width-is in
+      let s = t .size-is in
+      let p = t .padded-is in
+      let q = t .class-is in
       e ∙ rw (done, w, s, p, q) (groups-more c n old)
 
   module _ (count : ℕ) (h : Fillable c old count) (l : n ≤ count) where
@@ -39,7 +40,7 @@ module _ (c : Columns) (n : ℕ) (old new : List ℕ) (done : new ≡ groupsWrit
         let r = h .reach .few in
         record {
           entries = λ k g. h .entries k (omega arith);
-          told = λ k g. rw done (written-right c n old k g (omega arith));
+          facts-right = λ k g. rw done (written-right c n old k g (omega arith));
         }
 
     pub filled-length : length new ≡ length old

@@ -1,7 +1,7 @@
 -- Laws of the nodes of a file, read one after the other.
 --
 --   entries-length              as many nodes are found as were asked for
---   ReadTo                      the first n nodes are found, and the next stands at an offset
+--   ReadUpTo                      the first n nodes are found, and the next stands at an offset
 --   read-none read-more more-entries
 --                               none is read yet; one more is
 --   read-fault                  the first node at fault is the fault of them all
@@ -85,40 +85,40 @@ abbrev pub firstNodes : List ℕ → ℕ → ℕ → List Entry
 firstNodes file start n = entriesIn (entriesFrom file n 0 start)
 
 -- The first n nodes are found, and the next stands at an offset.
-pub record ReadTo (file : List ℕ) (start n at : ℕ) : Type 0 where
+pub record ReadUpTo (file : List ℕ) (start n at : ℕ) : Type 0 where
   pub so-far : entriesFrom file n 0 start ≡ found (firstNodes file start n) at
 
-pub read-length : (file : List ℕ) (start n at : ℕ) → ReadTo file start n at → length (firstNodes file start n) ≡ n
+pub read-length : (file : List ℕ) (start n at : ℕ) → ReadUpTo file start n at → length (firstNodes file start n) ≡ n
 read-length file start n at r = entries-length file n 0 start (firstNodes file start n) at (r .so-far)
 
-pub read-none : (file : List ℕ) (start : ℕ) → ReadTo file start 0 start
+pub read-none : (file : List ℕ) (start : ℕ) → ReadUpTo file start 0 start
 unfolding entriesFrom
 read-none file start = record { so-far = refl }
 
 -- What the nodes after the first n are found to be decides the rest.
-rest : (file : List ℕ) (start n at b : ℕ) → ReadTo file start n at
+rest : (file : List ℕ) (start n at b : ℕ) → ReadUpTo file start n at
     → entriesFrom file (n + b) 0 start ≡ further (firstNodes file start n) (entriesFrom file b n at)
 unfolding after
 rest file start n at b r =
     split file n b 0 start ∙ ap (λ x. andThen x (λ es next. further es (entriesFrom file b (0 + n) next))) (r .so-far)
     ∙ ap (λ k. further (firstNodes file start n) (entriesFrom file b k at)) (zero-add n)
 
-one-more : (file : List ℕ) (start n at : ℕ) (e : Entry) (next : ℕ) → ReadTo file start n at → found e next ≡ entryFrom file n at
+one-more : (file : List ℕ) (start n at : ℕ) (e : Entry) (next : ℕ) → ReadUpTo file start n at → found e next ≡ entryFrom file n at
     → entriesFrom file (n + 1) 0 start ≡ found (firstNodes file start n ++ (e ∷ [])) next
 unfolding entriesFrom further
 one-more file start n at e next r q = rest file start n at 1 r ∙ rw (← q)
 
-pub more-nodes : (file : List ℕ) (start n at : ℕ) (e : Entry) (next : ℕ) → ReadTo file start n at → found e next ≡ entryFrom file n at
+pub more-nodes : (file : List ℕ) (start n at : ℕ) (e : Entry) (next : ℕ) → ReadUpTo file start n at → found e next ≡ entryFrom file n at
     → firstNodes file start (n + 1) ≡ firstNodes file start n ++ (e ∷ [])
 more-nodes file start n at e next r q = ap entriesIn (one-more file start n at e next r q)
 
-pub read-more : (file : List ℕ) (start n at : ℕ) (e : Entry) (next : ℕ) → ReadTo file start n at → found e next ≡ entryFrom file n at
-    → ReadTo file start (n + 1) next
+pub read-more : (file : List ℕ) (start n at : ℕ) (e : Entry) (next : ℕ) → ReadUpTo file start n at → found e next ≡ entryFrom file n at
+    → ReadUpTo file start (n + 1) next
 read-more file start n at e next r q =
     let m = one-more file start n at e next r q in
     record { so-far = m ∙ ap (λ es. found es next) (sym (ap entriesIn m)) }
 
-pub read-fault : (file : List ℕ) (start n at count p : ℕ) → ReadTo file start n at → n < count → faulty p ≡ entryFrom file n at
+pub read-fault : (file : List ℕ) (start n at count p : ℕ) → ReadUpTo file start n at → n < count → faulty p ≡ entryFrom file n at
     → entriesFrom file count 0 start ≡ faulty p
 unfolding entriesFrom further
 read-fault file start n at count p r h q =

@@ -1,5 +1,4 @@
 -- Laws of the file form that belong to no one function.
-pub mod Numbers
 pub mod Nodes
 pub mod Entries
 pub mod Whole

@@ -14,7 +14,7 @@ use mathlib.Core.List.{List}
 use lib.Dec.{ltb, leb}
 use borrow.Author.Tests.{leb-true}
 use Rattle.meaning.specs.Tables.{countRight}
-use Rattle.meaning.specs.Files.{Reading, faulty, found, groups, number, andThen, Entry, entryOf, entryFrom}
+use Rattle.meaning.specs.Files.{Reading, faulty, found, numberAt, number, andThen, Entry, entryOf, entryFrom}
 use Rattle.meaning.proofs.Tests.{and-left, and-right}
 
 -- A reading is found, or faulty.
@@ -54,8 +54,8 @@ range-of p at (found m after) n next e = by-test (p m) refl e
     by-test true t f = (f, ap p (same-found n m next after f .0) ∙ t)
     by-test false t f = absurd (found-faulty n next at f)
 
-pub number-range : (p : ℕ → Bool) (file : List ℕ) (at n next : ℕ) → found n next ≡ number p file at → (found n next ≡ groups file at) × (p n ≡ true)
-number-range p file at n next e = range-of p at (groups file at) n next e
+pub number-range : (p : ℕ → Bool) (file : List ℕ) (at n next : ℕ) → found n next ≡ number p file at → (found n next ≡ numberAt file at) × (p n ≡ true)
+number-range p file at n next e = range-of p at (numberAt file at) n next e
 
 pub count-range : (file : List ℕ) (n next : ℕ) → found n next ≡ number countRight file 0 → (1 ≤ n) × (n ≤ 1024)
 count-range file n next e =

@@ -1,6 +1,6 @@
 -- What a file with no fault is made of: its nodes as they were read, one after the other.
 --
---   NodeRead node-read          a node that is found: a unit, or a kind with two sides
+--   EntryRead node-read          a node that is found: a unit, or a kind with two sides
 --   NodesRead nodes-read        nodes that are found, in their order
 --   TableRead table-read        a whole file: the count, the nodes, and nothing after them
 -- Assumes nothing.
@@ -17,16 +17,16 @@ use Rattle.files.proofs.Nodes.{found-faulty, same-found}
 use Rattle.files.proofs.Entries.{entries-length}
 
 -- A node of a file with its offset and the one after it: a unit, or a kind with two sides.
-pub data NodeRead (file : List ℕ) (n at : ℕ) : Entry → ℕ → Type 0 where
-  a-unit : {next : ℕ} → found 0 next ≡ number (λ k. ltb k 3) file at → NodeRead file n at (record { kind = 0; left = 0; right = 0 }) next
+pub data EntryRead (file : List ℕ) (n at : ℕ) : Entry → ℕ → Type 0 where
+  a-unit : {next : ℕ} → found 0 next ≡ number (λ k. ltb k 3) file at → EntryRead file n at (record { kind = 0; left = 0; right = 0 }) next
   with-sides : {k l r left-at right-at next : ℕ} → found (suc k) left-at ≡ number (λ m. ltb m 3) file at
       → found l right-at ≡ number (λ m. ltb m n) file left-at → found r next ≡ number (λ m. ltb m n) file right-at
-      → NodeRead file n at (record { kind = suc k; left = l; right = r }) next
+      → EntryRead file n at (record { kind = suc k; left = l; right = r }) next
 
 -- Nodes of a file, of which the first has a number and an offset, and the offset after them.
 pub data NodesRead (file : List ℕ) : ℕ → ℕ → List Entry → ℕ → Type 0 where
   no-node : {n at : ℕ} → NodesRead file n at [] at
-  a-node : {n at next last : ℕ} {e : Entry} {es : List Entry} → NodeRead file n at e next → NodesRead file (suc n) next es last
+  a-node : {n at next last : ℕ} {e : Entry} {es : List Entry} → EntryRead file n at e next → NodesRead file (suc n) next es last
       → NodesRead file n at (e ∷ es) last
 
 -- A whole file.
@@ -48,18 +48,18 @@ before (faulty p) f b next e = absurd (found-faulty b next p e)
 before (found a at) f b next e = record { what = a; at = at; first = refl; then = e }
 
 of-kind : (file : List ℕ) (n at k after : ℕ) (e : Entry) (next : ℕ) → found k after ≡ number (λ m. ltb m 3) file at
-    → found e next ≡ entryOf file n k after → NodeRead file n at e next
+    → found e next ≡ entryOf file n k after → EntryRead file n at e next
 of-kind file n at zero after e next seen q =
     let s = same-found (record { kind = 0; left = 0; right = 0 }) e after next (sym q) in
-    subst₂ (NodeRead file n at) (s .0) (s .1) (a-unit seen)
+    subst₂ (EntryRead file n at) (s .0) (s .1) (a-unit seen)
 of-kind file n at (suc k) after e next seen q =
     let l = before (number (λ m. ltb m n) file after)
     (λ l at₁. andThen (number (λ r. ltb r n) file at₁) (λ r at₂. found (record { kind = suc k; left = l; right = r }) at₂)) e next q in
     let r = before (number (λ m. ltb m n) file (l .at)) (λ r at₂. found (record { kind = suc k; left = l .what; right = r }) at₂) e next (l .then) in
     let s = same-found (record { kind = suc k; left = l .what; right = r .what }) e (r .at) next (sym (r .then)) in
-    subst₂ (NodeRead file n at) (s .0) (s .1) (with-sides seen (l .first) (r .first))
+    subst₂ (EntryRead file n at) (s .0) (s .1) (with-sides seen (l .first) (r .first))
 
-pub node-read : (file : List ℕ) (n at : ℕ) (e : Entry) (next : ℕ) → found e next ≡ entryFrom file n at → NodeRead file n at e next
+pub node-read : (file : List ℕ) (n at : ℕ) (e : Entry) (next : ℕ) → found e next ≡ entryFrom file n at → EntryRead file n at e next
 unfolding entryFrom
 node-read file n at e next q =
     let k = before (number (λ m. ltb m 3) file at) (λ k after. entryOf file n k after) e next q in

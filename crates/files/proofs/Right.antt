@@ -16,7 +16,7 @@ use Rattle.meaning.specs.Tables.{sidesRight, entryRight}
 use Rattle.meaning.specs.Files.{found, Entry, tableIn, columnsOf}
 use Rattle.meaning.proofs.Tests.{and-both}
 use Rattle.files.proofs.Nodes.{number-range, count-range}
-use Rattle.files.proofs.Read.{NodeRead, a-unit, with-sides, NodesRead, no-node, a-node, table-read}
+use Rattle.files.proofs.Read.{EntryRead, a-unit, with-sides, NodesRead, no-node, a-node, table-read}
 
 -- What stands for a node past the last: a unit.
 pub noEntry : Entry
@@ -31,7 +31,7 @@ two-sides (suc (suc k)) n l r h e = absurd (too-large h)
     too-large : suc (suc (suc k)) < 3 → ⊥
     too-large x = omega arith
 
-node-right : (file : List ℕ) (n at : ℕ) (e : Entry) (next : ℕ) → NodeRead file n at e next → sidesRight (e .kind) n (e .left) (e .right) ≡ true
+node-right : (file : List ℕ) (n at : ℕ) (e : Entry) (next : ℕ) → EntryRead file n at e next → sidesRight (e .kind) n (e .left) (e .right) ≡ true
 node-right file n at e next (a-unit q) = refl
 node-right file n at e next (with-sides {k = k} {l = l} {r = r} {left-at = la} {right-at = ra} {next = x} kq lq rq) =
     two-sides k n l r (ltb-true (suc k) 3 (number-range (λ m. ltb m 3) file at (suc k) la kq .1))

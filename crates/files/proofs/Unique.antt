@@ -19,12 +19,12 @@ use lib.ListN.{length, drop, getD, drop-of-length-le}
 use lib.Seq.{drop-cons}
 use borrow.Author.Tests.{ltb-true, ltb-false, leb-true, leb-false, lt-ltb, le-ltb}
 use Rattle.meaning.specs.Tables.{countRight}
-use Rattle.meaning.specs.Files.{found, groups, number, Entry, tableIn}
+use Rattle.meaning.specs.Files.{found, numberAt, number, Entry, tableIn}
 use Rattle.meaning.specs.Checked.{Bytes}
 use Rattle.meaning.proofs.Choices.{either}
-use Rattle.files.proofs.Numbers.{groups-gone, groups-one, groups-cut, groups-short, groups-third, groups-two}
+use Rattle.files_numbers.proofs.Numbers.{numberAt-gone, numberAt-one, numberAt-cut, numberAt-short, numberAt-third, numberAt-two}
 use Rattle.files.proofs.Nodes.{found-faulty, same-found, number-range}
-use Rattle.files.proofs.Read.{NodeRead, a-unit, with-sides, NodesRead, no-node, a-node, table-read}
+use Rattle.files.proofs.Read.{EntryRead, a-unit, with-sides, NodesRead, no-node, a-node, table-read}
 
 -- A number in groups of seven bits, the low group first, the top bit set on all but the last.
 pub numberBytes : ℕ → List ℕ
@@ -75,25 +75,25 @@ two-groups file at n next h low byte high small p q =
     ∙ (λ x. l x ∷ m x ∷ drop (sym e x) file)
     ∙ sym (ap (λ c. cond c (n ∷ []) ((128 + n % 128) ∷ (n / 128) ∷ []) ++ drop next file) (le-ltb n 128 t))
 
-pub number-bytes : (file : List ℕ) → Bytes file → (at n next : ℕ) → found n next ≡ groups file at → drop at file ≡ numberBytes n ++ drop next file
+pub number-bytes : (file : List ℕ) → Bytes file → (at n next : ℕ) → found n next ≡ numberAt file at → drop at file ≡ numberBytes n ++ drop next file
 number-bytes file bytes at n next q =
     ⊎-elim
     (λ t. let h : at < length file = ltb-true at (length file) t in ⊎-elim
     (λ u. let b : getD file at 0 < 128 = ltb-true (getD file at 0) 128 u in
-    let s = same-found n (getD file at 0) next (at + 1) (q ∙ sym (groups-one file at h b)) in
+    let s = same-found n (getD file at 0) next (at + 1) (q ∙ sym (numberAt-one file at h b)) in
     one-group file at n next h b (s .0) (s .1))
     (λ u. second h (ltb-false (getD file at 0) 128 u))
     (either (ltb (getD file at 0) 128)))
-    (λ t. absurd (found-faulty n next at (q ∙ sym (groups-gone file at (ltb-false at (length file) t)))))
+    (λ t. absurd (found-faulty n next at (q ∙ sym (numberAt-gone file at (ltb-false at (length file) t)))))
     (either (ltb at (length file)))
   where
     third : at < length file → 128 ≤ getD file at 0 → at + 1 < length file → 1 ≤ getD file (at + 1) 0 → drop at file ≡ numberBytes n ++ drop next file
     third h low i high =
         ⊎-elim
         (λ t. let b : getD file (at + 1) 0 < 128 = ltb-true (getD file (at + 1) 0) 128 t in
-        let s = same-found n (getD file at 0 % 128 + 128 * getD file (at + 1) 0) next (at + 2) (q ∙ sym (groups-two file at h low i high b)) in
+        let s = same-found n (getD file at 0 % 128 + 128 * getD file (at + 1) 0) next (at + 2) (q ∙ sym (numberAt-two file at h low i high b)) in
         two-groups file at n next i low (bytes .below at h) high b (s .0) (s .1))
-        (λ t. absurd (found-faulty n next at (q ∙ sym (groups-third file at h low i high (ltb-false (getD file (at + 1) 0) 128 t)))))
+        (λ t. absurd (found-faulty n next at (q ∙ sym (numberAt-third file at h low i high (ltb-false (getD file (at + 1) 0) 128 t)))))
         (either (ltb (getD file (at + 1) 0) 128))
 
     second : at < length file → 128 ≤ getD file at 0 → drop at file ≡ numberBytes n ++ drop next file
@@ -101,9 +101,9 @@ number-bytes file bytes at n next q =
         ⊎-elim
         (λ t. let i : at + 1 < length file = ltb-true (at + 1) (length file) t in ⊎-elim
         (λ u. third h low i (leb-true 1 (getD file (at + 1) 0) u))
-        (λ u. absurd (found-faulty n next at (q ∙ sym (groups-short file at h low i (leb-false 1 (getD file (at + 1) 0) u)))))
+        (λ u. absurd (found-faulty n next at (q ∙ sym (numberAt-short file at h low i (leb-false 1 (getD file (at + 1) 0) u)))))
         (either (leb 1 (getD file (at + 1) 0))))
-        (λ t. absurd (found-faulty n next at (q ∙ sym (groups-cut file at h low (ltb-false (at + 1) (length file) t)))))
+        (λ t. absurd (found-faulty n next at (q ∙ sym (numberAt-cut file at h low (ltb-false (at + 1) (length file) t)))))
         (either (ltb (at + 1) (length file)))
 
 module _ (file : List ℕ) (bytes : Bytes file) where
@@ -111,7 +111,7 @@ module _ (file : List ℕ) (bytes : Bytes file) where
   in-bytes : (p : ℕ → Bool) (at n next : ℕ) → found n next ≡ number p file at → drop at file ≡ numberBytes n ++ drop next file
   in-bytes p at n next q = number-bytes file bytes at n next (number-range p file at n next q .0)
 
-  pub node-bytes : (n at : ℕ) (e : Entry) (next : ℕ) → NodeRead file n at e next → drop at file ≡ entryBytes e ++ drop next file
+  pub node-bytes : (n at : ℕ) (e : Entry) (next : ℕ) → EntryRead file n at e next → drop at file ≡ entryBytes e ++ drop next file
   unfolding entryBytes sidesBytes
   node-bytes n at e next (a-unit {next = x} k) = in-bytes (λ m. ltb m 3) at 0 x k ∙ ap (λ s. s ++ drop x file) (sym (append-nil (numberBytes 0)))
   node-bytes n at e next (with-sides {k = k} {l = l} {r = r} {left-at = la} {right-at = ra} {next = x} kq lq rq) =

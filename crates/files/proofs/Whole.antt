@@ -20,7 +20,7 @@ use Rattle.meaning.specs.Ladder.{Answer, refused, accepted, rung, ladder}
 use Rattle.meaning.specs.TypeCalls.{fileRung, entriesIn, readTableCall}
 use Rattle.meaning.proofs.Ladders.{accepted-refused}
 use Rattle.files.specs.Readings.{fileVerdict}
-use Rattle.files.proofs.Entries.{ReadTo, firstNodes, read-length, read-fault, entries-length}
+use Rattle.files.proofs.Entries.{ReadUpTo, firstNodes, read-length, read-fault, entries-length}
 
 pub verdict-count : (file : List ℕ) → faulty 0 ≡ number countRight file 0 → refused 1 0 ≡ fileVerdict (tableIn file)
 unfolding tableIn
@@ -32,13 +32,13 @@ module _ (file : List ℕ) (count start : ℕ) (counted : found count start ≡ 
   unfolding tableIn
   whole = rw (← counted)
 
-  pub verdict-node : (n at p : ℕ) → ReadTo file start n at → n < count → faulty p ≡ entryFrom file n at → refused 1 p ≡ fileVerdict (tableIn file)
+  pub verdict-node : (n at p : ℕ) → ReadUpTo file start n at → n < count → faulty p ≡ entryFrom file n at → refused 1 p ≡ fileVerdict (tableIn file)
   verdict-node n at p r h e = rw (whole, read-fault file start n at count p r h e)
 
-  pub verdict-surplus : (at : ℕ) → ReadTo file start count at → at < length file → refused 1 at ≡ fileVerdict (tableIn file)
+  pub verdict-surplus : (at : ℕ) → ReadUpTo file start count at → at < length file → refused 1 at ≡ fileVerdict (tableIn file)
   verdict-surplus at r h = rw (whole, r .so-far, lt-ltb at (length file) h)
 
-  pub verdict-sound : (at : ℕ) → ReadTo file start count at → length file ≤ at → accepted count ≡ fileVerdict (tableIn file)
+  pub verdict-sound : (at : ℕ) → ReadUpTo file start count at → length file ≤ at → accepted count ≡ fileVerdict (tableIn file)
   verdict-sound at r h = rw (whole, r .so-far, le-ltb at (length file) h) (ap accepted (sym (read-length file start count at r)))
 
   -- A file with no fault: its nodes are those that were read, and they are as many as it says.

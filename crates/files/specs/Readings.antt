@@ -1,6 +1,5 @@
 -- Which reading of document 01's file form each value of an enum stands for, and what a file must be to have its nodes written.
 --
---   readAt                      a number read at an offset
 --   nodeOf                      a node read
 --   judgedOf fileVerdict        the verdict on a whole file: the count of its nodes, or refusal 1 with its place
 --   Readable                    a file with no fault, and columns that reach its count
@@ -12,15 +11,9 @@ use Rattle.meaning.specs.Files as file
 use Rattle.meaning.specs.Files.{Reading, faulty, found, tableIn}
 use Rattle.meaning.specs.TypeCalls.{entriesIn}
 use Rattle.meaning.specs.Ladder.{Answer, refused, accepted}
-use Rattle.files.specs.declared.Number.{Number}
 use Rattle.files.specs.declared.Entry.{Entry}
 use Rattle.files.specs.declared.Node.{Node}
 use Rattle.files.specs.declared.Judged.{Judged}
-
--- A number read at an offset: a fault's place is the number's first byte.
-abbrev pub readAt : ℕ → Number → Reading ℕ
-readAt at (Number.Is n next) = found n next
-readAt at Number.Faulty = faulty at
 
 -- A node's entry.
 abbrev pub entryOf : Entry → file.Entry

@@ -1,18 +1,14 @@
 // The file form of a type table: whether a file is sound, where the first fault of another stands, and the nodes of a sound one.
 // `judge_file` only reads; `write_columns` is for a file that was judged sound and columns that reach its count.
+use files_numbers::Number;
+use files_numbers::count_of;
+use files_numbers::number_below;
 ghost use mathlib.Core.Path.{_≡_};
 ghost use Prim.Native.Nat.{_≤_};
-ghost use lib.Dec.{ltb};
-ghost use Rattle.meaning.specs.Tables.{countRight, columns};
-ghost use Rattle.meaning.specs.Files.{groups, number, entryFrom, tableIn};
+ghost use Rattle.meaning.specs.Tables.{columns};
+ghost use Rattle.meaning.specs.Files.{entryFrom, tableIn};
 ghost use Rattle.meaning.specs.TypeCalls.{entriesIn, entriesWritten};
-ghost use Rattle.files.specs.Readings.{readAt, nodeOf, judgedOf, fileVerdict, Readable};
-
-// A number of the file, with the offset after it.
-pub enum Number {
-    Is(usize, usize),
-    Faulty,
-}
+ghost use Rattle.files.specs.Readings.{nodeOf, judgedOf, fileVerdict, Readable};
 
 // A node as the file has it.
 pub struct Entry {
@@ -31,60 +27,6 @@ pub enum Node {
 pub enum Judged {
     Sound(usize),
     Fault(usize),
-}
-
-// The number whose first byte stands at an offset, in shortest form and of at most two groups.
-fn number_at(file: &[u8], at: usize) -> Number
-    ensures { λ r. ⌜ readAt at r ≡ groups (now (file .entry)) at ⌝ }
-{
-    if file.len() <= at {
-        return Number::Faulty;
-    }
-    let low = file[at] as usize;
-    let second = at + 1;
-    if low < 128 {
-        return Number::Is(low, second);
-    }
-    if file.len() <= second {
-        return Number::Faulty;
-    }
-    let high = file[second] as usize;
-    if high < 1 {
-        return Number::Faulty;
-    }
-    if 128 <= high {
-        return Number::Faulty;
-    }
-    Number::Is(low % 128 + 128 * high, at + 2)
-}
-
-// The number at an offset, if it is below a limit.
-fn number_below(file: &[u8], at: usize, limit: usize) -> Number
-    ensures { λ r. ⌜ readAt at r ≡ number (λ n. ltb n limit) (now (file .entry)) at ⌝ }
-{
-    let Number::Is(n, next) = number_at(file, at) else {
-        return Number::Faulty;
-    };
-    if limit <= n {
-        return Number::Faulty;
-    }
-    Number::Is(n, next)
-}
-
-// The count of nodes, with which the file begins.
-fn count_of(file: &[u8]) -> Number
-    ensures { λ r. ⌜ readAt 0 r ≡ number countRight (now (file .entry)) 0 ⌝ }
-{
-    let Number::Is(n, next) = number_at(file, 0) else {
-        return Number::Faulty;
-    };
-    if n < 1 {
-        return Number::Faulty;
-    }
-    if 1024 < n {
-        return Number::Faulty;
-    }
-    Number::Is(n, next)
 }
 
 // The node numbered n, whose kind stands at an offset.

@@ -27,6 +27,7 @@ use Rattle.meaning.proofs.Ladders.{ladder-holds, ladder-fails, bad}
 use Rattle.meaning.proofs.Groups.{fact-at, groups-reach}
 use Rattle.meaning.proofs.GroupLaws.{right-holds, length-group, length-groupsOf}
 use Rattle.meaning.proofs.GroupBytes.{group-low}
+use Rattle.meaning.proofs.Tests.{and-no-right}
 use Rattle.laws.proofs.Layouts.{SameFacts, tableWith}
 use Rattle.laws.proofs.LayoutFills.{nodesIn}
 
@@ -44,18 +45,13 @@ group-told c g k b h r =
     ∙ take-at (group w z p j) (drop (groupSize * (k + 1)) g) groupSize (length-group w z p j)
     ∙ (λ i. group (s .width-held i) (s .size-held i) (s .padded-held i) (s .class-held i))
 
--- A test fails if its second part does.
-and-no : (x y : Bool) → y ≡ false → (x && y) ≡ false
-and-no true y e = e
-and-no false y e = refl
-
 -- The first node at fault is told, in any layout.
 fault-at : {A : Type 0} (c : Columns) (n : ℕ) (f : Facts) (k : ℕ) (rs : List Rung) (a : A) → countRight n ≡ true → columnsReach c n ≡ true
     → factsReach f n ≡ true → k < n → ((j : ℕ) → j < k → (entryRight c j && factsRight c f j) ≡ true) → factsRight c f k ≡ false
     → ladder (sound (tableWith c n f) ++ rs) a ≡ refused 1 k
 unfolding firstBad
 fault-at c n f k rs a m r t h before wrong =
-    let e : firstBad (tableWith c n f) ≡ k = least-unique (bad (tableWith c n f)) n k (omega arith) (λ j l. ap not (before j l)) (λ _. ap not (and-no (entryRight c k) (factsRight c f k) wrong)) in
+    let e : firstBad (tableWith c n f) ≡ k = least-unique (bad (tableWith c n f)) n k (omega arith) (λ j l. ap not (before j l)) (λ _. ap not (and-no-right (entryRight c k) (factsRight c f k) wrong)) in
     ladder-fails (not (countRight n && columnsReach c n && factsReach f n)) 1 0 _ a (rw (m, r, t))
     ∙ ladder-holds (ltb (firstBad (tableWith c n f)) n) 1 (firstBad (tableWith c n f)) rs a (lt-ltb (firstBad (tableWith c n f)) n (omega arith))
     ∙ ap (refused 1) e
@@ -142,7 +138,7 @@ pub short-refused : {A : Type 0} (c : Columns) (n : ℕ) (g : List ℕ) (rs : Li
     → ladder (sound (tableWith c n (factsIn g)) ++ rs) a ≡ refused 1 0
 short-refused c n g rs a h =
     ladder-holds (not (countRight n && columnsReach c n && factsReach (factsIn g) n)) 1 0 _ a
-    (ap not (and-no (countRight n && columnsReach c n) (factsReach (factsIn g) n) (groups-reach n g ∙ lt-leb (groupSize * n) (length g) h)))
+    (ap not (and-no-right (countRight n && columnsReach c n) (factsReach (factsIn g) n) (groups-reach n g ∙ lt-leb (groupSize * n) (length g) h)))
 
 pub fill-short : (c : Columns) (n : ℕ) (g : List ℕ) → countRight n ≡ true → columnsReach c n ≡ true → ((k : ℕ) → k < n → entryRight c k ≡ true)
     → length g < groupSize * n → fillFactsCall c n g ≡ refused 9 0

@@ -44,7 +44,7 @@
 --   to-compact-same to-compact-out-same       toCompactCall toCompactOut      to_compact_bits
 --   to-padded-same to-padded-out-same         toPaddedCall toPaddedOut        to_padded_bits
 --   prune-same prune-out-same                 pruneCall pruneOut              prune
--- These are 46 of the 50 exported calls. `word_width` and `buffer_width` are handed no table; `fill_facts` and `read_table` stand in
+-- These are all exported calls but four. `word_width` and `buffer_width` are handed no table; `fill_facts` and `read_table` stand in
 -- `LayoutFills`. Assumes nothing.
 use Prim.Native.Nat.{ℕ}
 use mathlib.Core.Path.{_≡_, refl, ap, sym, _∙_}

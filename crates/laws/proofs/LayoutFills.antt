@@ -24,7 +24,7 @@ use Rattle.meaning.specs.Choice.{from}
 use Rattle.meaning.specs.Types.{width, size, padded}
 use Rattle.meaning.specs.Groups.{groupSize}
 use Rattle.meaning.specs.Tables.{Columns, Facts, factsIn, tyAt, classOf, digit, countRight, columnsReach, factsReach, groupsReach, firstBadEntry}
-use Rattle.meaning.specs.Files.{Reading, faulty, found, andThen, groups, Entry, entryFrom, entriesFrom, ended, tableIn, columnsOf}
+use Rattle.meaning.specs.Files.{Reading, faulty, found, andThen, numberAt, Entry, entryFrom, entriesFrom, ended, tableIn, columnsOf}
 use Rattle.meaning.specs.Ladder.{Answer, refused, accepted, rung, ladder, kept}
 use Rattle.meaning.specs.TypeCalls.{groupsWritten, fillFactsCall, fillFactsOut, entriesIn, entriesWritten, columnsKept, fileRung, readTableCall, readTableColumnsOut, readTableGroupsOut}
 use Rattle.meaning.specs.OldLayout.{filled, factsWritten, factsKept, fillColumns, fillColumnsOut, readColumns, readColumnsEntries, readColumnsFacts}
@@ -128,7 +128,7 @@ counted-ended file k (found es at) h = end (ltb at (length file))
 
 pub file-count : (file : List ℕ) → length (nodesIn file) ≤ 1024
 unfolding tableIn
-file-count file = first (groups file 0)
+file-count file = first (numberAt file 0)
   where
     nodes : ℕ → ℕ → Reading (List Entry)
     nodes n at = andThen (entriesFrom file n 0 at) (ended file)

@@ -1,6 +1,3 @@
--- Laws of the report's text that belong to no one function.
-pub mod Sample
-pub mod Decimals
-pub mod Puts
+-- Laws of whole lines and of a whole report.
 pub mod Lines
 pub mod Texts

@@ -11,8 +11,8 @@ use mathlib.Core.List.{List, _++_}
 use native.Mathlib.Numerals.{add-one}
 use native.Mathlib.Omega.{arith}
 use lib.ListN.{length, length-append}
-use Rattle.lines.specs.Report.{ascii, decimal, kindWord, headLine, nodeLine, linesTo}
-use Rattle.lines.proofs.Decimals.{number-room, byte-room, kind-room}
+use Rattle.lines_digits.specs.Report.{ascii, decimal, kindWord, headLine, nodeLine, linesTo}
+use Rattle.lines_digits.proofs.Decimals.{number-room, byte-room, kind-room}
 
 pub head-room : (n : ℕ) → length (headLine n) ≤ 32
 head-room n = let d = number-room n 10 in omega (arith, length-append (ascii "nodes ") (decimal n ++ ascii "\n"))

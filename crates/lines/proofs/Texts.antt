@@ -1,6 +1,5 @@
 -- What is printed of a table that was read is the report of its file.
 --
---   read-text                   the kinds and the groups of a file's nodes have its report
 --   accepted-text refused-text  after `read_table`: the kinds and the groups that it leaves, and its refusal, have the report of the file
 -- Assumes nothing.
 use Prim.Native.Nat.{ℕ, _*_, _≤_}
@@ -17,7 +16,7 @@ use Rattle.meaning.specs.Ladder.{Answer, refused, accepted, rung, ladder}
 use Rattle.meaning.specs.TypeCalls.{groupsWritten, fileRung, entriesIn, entriesWritten, readTableCall, readTableColumnsOut, readTableGroupsOut}
 use Rattle.meaning.proofs.GroupLaws.{written-width, written-size, written-padded, written-class}
 use Rattle.meaning.proofs.Ladders.{accepted-refused, numberOf, placeOf, kept-accepted}
-use Rattle.lines.specs.Report.{nodeLine, lineIn, factsLine, headLine, refusalLine, groupsText, tableText, readingText, fileText}
+use Rattle.lines_digits.specs.Report.{nodeLine, lineIn, factsLine, headLine, refusalLine, groupsText, tableText, readingText, fileText}
 use Rattle.lines.proofs.Lines.{lines-agree}
 
 -- The column of kinds and the groups of some nodes have the report of those nodes.
@@ -30,12 +29,6 @@ nodes-text es c gs few =
     (lines-agree (lineIn (entriesWritten es c .kinds) (factsIn (groupsWritten t n gs))) (λ k. factsLine k (factsAt t k)) n
     (λ k h i. nodeLine k (List·getD-append (map (λ e. e .kind) es) (drop n (c .kinds)) 0 k (rw length-map h) i) (written-width t n gs k h few i)
     (written-size t n gs k h few i) (written-padded t n gs k h few i) (written-class t n gs k h few i)))
-
--- A file whose nodes are found.
-pub read-text : (file : List ℕ) (es : List Entry) (at : ℕ) (c : Columns) (gs : List ℕ) → length es ≤ 1024 → tableIn file ≡ found es at
-    → groupsText (entriesWritten es c .kinds) (groupsWritten (columnsOf es) (length es) gs) (length es) ≡ fileText file
-unfolding fileText
-read-text file es at c gs few e = nodes-text es c gs few ∙ sym (ap readingText e)
 
 -- What `read_table` answers of a reading.
 answer : Reading (List Entry) → Columns → List ℕ → Answer ℕ

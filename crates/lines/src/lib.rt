@@ -1,67 +1,18 @@
-// The text of a report, written into a lent buffer: numbers, words, lines, and the whole report of a table or of a refusal.
+// The text of a report, written into a lent buffer: lines, and the whole report of a table or of a refusal.
 // Each function says which text stands at its offset afterwards and answers the offset after it; the rest of the buffer stays.
-ghost use mathlib.Core.Path.{_≡_};
+use lines_digits::put_kind;
+use lines_digits::put_number;
+use lines_digits::put_word;
 ghost use Prim.Native.Nat.{_+_, _≤_};
-ghost use mathlib.Core.List.{[], _∷_, _++_};
 ghost use lib.ListN.{length};
-ghost use Rattle.lines.specs.Report.{ascii, decimal, kindWord, headLine, nodeLine, refusalLine, groupsText};
-ghost use Rattle.lines.specs.Buffer.{Wrote, Printed, Reportable};
-
-// A number in decimal, the leading digits first.
-fn put_digits(out: &mut [u8], at: usize, n: u64) -> usize
-    requires { ⌜ at + length (decimal n) ≤ length (now out) ⌝ }
-    ensures { λ r. ⌜ Wrote (now (out .entry)) at (decimal n) (now (out .exit)) r ⌝ }
-{
-    if n < 10 {
-        out[at] = 48 + n as u8;
-        return at + 1;
-    }
-    let last = put_digits(out, at, n / 10);
-    out[last] = 48 + (n % 10) as u8;
-    last + 1
-}
-
-// A number, and the byte that follows it.
-fn put_number(out: &mut [u8], at: usize, n: u64, stop: u8) -> usize
-    requires { ⌜ at + 21 ≤ length (now out) ⌝ }
-    ensures { λ r. ⌜ Wrote (now (out .entry)) at (decimal n ++ (stop ∷ [])) (now (out .exit)) r ⌝ }
-{
-    let end = put_digits(out, at, n);
-    out[end] = stop;
-    end + 1
-}
-
-// A word.
-fn put_word(out: &mut [u8], at: usize, word: &[u8]) -> usize
-    requires { ⌜ at + length (now word) ≤ length (now out) ⌝ }
-    ensures { λ r. ⌜ Wrote (now (out .entry)) at (now (word .entry)) (now (out .exit)) r ⌝ }
-{
-    let mut k = 0;
-    while k < word.len() {
-        out[at + k] = word[k];
-        k += 1;
-    }
-    at + k
-}
-
-// The word of a kind, and a space.
-fn put_kind(out: &mut [u8], at: usize, kind: u8) -> usize
-    requires { ⌜ at + 8 ≤ length (now out) ⌝ }
-    ensures { λ r. ⌜ Wrote (now (out .entry)) at (kindWord kind ++ ascii " ") (now (out .exit)) r ⌝ }
-{
-    if kind == 0 {
-        return put_word(out, at, b"unit ");
-    }
-    if kind == 1 {
-        return put_word(out, at, b"sum ");
-    }
-    put_word(out, at, b"product ")
-}
+ghost use Rattle.lines_digits.specs.Report.{headLine, nodeLine, refusalLine, groupsText};
+ghost use Rattle.lines_digits.specs.Buffer.{PutAt, Printed};
+ghost use Rattle.lines.specs.Room.{Reportable};
 
 // The first line of a report.
 pub fn head_line(out: &mut [u8], at: usize, count: usize) -> usize
     requires { ⌜ at + 32 ≤ length (now out) ⌝ }
-    ensures { λ r. ⌜ Wrote (now (out .entry)) at (headLine count) (now (out .exit)) r ⌝ }
+    ensures { λ r. ⌜ PutAt (now (out .entry)) at (headLine count) (now (out .exit)) r ⌝ }
 {
     let number = put_word(out, at, b"nodes ");
     put_number(out, number, count as u64, b'\n')
@@ -79,7 +30,7 @@ pub fn node_line(
     class: usize,
 ) -> usize
     requires { ⌜ at + 96 ≤ length (now out) ⌝ }
-    ensures { λ r. ⌜ Wrote (now (out .entry)) at (nodeLine k kind width size padded class) (now (out .exit)) r ⌝ }
+    ensures { λ r. ⌜ PutAt (now (out .entry)) at (nodeLine k kind width size padded class) (now (out .exit)) r ⌝ }
 {
     let kind_at = put_number(out, at, k as u64, b' ');
     let width_at = put_kind(out, kind_at, kind);

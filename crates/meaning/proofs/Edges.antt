@@ -9,7 +9,7 @@ use Rattle.meaning.specs.Choice.{least, from}
 use Rattle.meaning.specs.Types.{top, stop, same, bits, width, size, padded}
 use Rattle.meaning.specs.Tables.{Table, table, columns, facts, tyTo, tyAt, classOf, firstBad, firstBadEntry, entryRight, factsRight}
 use Rattle.meaning.specs.Groups.{low, lowBytes, factIn}
-use Rattle.meaning.specs.Files.{tableIn, groups, entryFrom, entriesFrom}
+use Rattle.meaning.specs.Files.{tableIn, sevenBitGroups, entryFrom, entriesFrom}
 use Rattle.meaning.specs.Bits.{odd, toBits, bitsOf, value, packTo, pack, written}
 use Rattle.meaning.specs.Records.{compact, sameBits, orderBits}
 use Rattle.meaning.specs.Codecs.{decodeCompact, decodePadded}
@@ -22,7 +22,7 @@ use Rattle.meaning.specs.CodecCalls.{fromCompactCall, fromPaddedCall, fr
 use Rattle.meaning.specs.WordCalls.{numberCall, numberOut, bytesCall, bytesOut, arrayCall, joinCall, joinOut, wordReadCall, bufferCall, bufferOut, ctx8Call}
 use Rattle.meaning.specs.CutCalls.{pruneCall, pruneOut}
 use Rattle.meaning.specs.OldLayout.{columnsTable, fillColumns}
-use Rattle.meaning.proofs.Sampling.{tableS, tableB, Said, done, node-facts, flag, count, number, order, place, places, out, Sample, sample, defined, paper, spare, one}
+use Rattle.meaning.proofs.Sampling.{tableS, tableB, done, count, number, order, place, out, Sample, sample, defined, paper, spare, one}
 
 -- Faults of a file, each with its place; a sound file with no room answers 9.
 pub fileEdges : List Sample
@@ -51,7 +51,7 @@ fileEdges =
     ∷ []
 
 pub fileEdges-hold : map defined fileEdges ≡ map paper fileEdges
-unfolding fileEdges defined paper tableS tableB spare least from same bits width size padded tyTo tyAt classOf firstBad firstBadEntry entryRight factsRight tableIn groups entryFrom entriesFrom odd toBits bitsOf value packTo pack written compact sameBits orderBits decodeCompact decodePadded word wordWidths isWord asWord exponent buffer bufferBits ctx8 ctx8Bits cut ladder recordBits restOf
+unfolding fileEdges defined paper tableS tableB spare least from same bits width size padded tyTo tyAt classOf firstBad firstBadEntry entryRight factsRight tableIn sevenBitGroups entryFrom entriesFrom odd toBits bitsOf value packTo pack written compact sameBits orderBits decodeCompact decodePadded word wordWidths isWord asWord exponent buffer bufferBits ctx8 ctx8Bits cut ladder recordBits restOf
 fileEdges-hold = refl
 
 -- The group of a unit, byte by byte: width, size, padded, class; and a group with these bytes at its edges (unit + unit: 1 0 3 0 0 1 0).
@@ -108,7 +108,7 @@ tableEdges =
     ∷ []
 
 pub tableEdges-hold : map defined tableEdges ≡ map paper tableEdges
-unfolding tableEdges unitGroup groupWith defined paper low lowBytes factIn groupOf groupsOf least from same width size padded tyTo tyAt classOf firstBad firstBadEntry entryRight factsRight tableIn groups entryFrom entriesFrom ladder
+unfolding tableEdges unitGroup groupWith defined paper low lowBytes factIn groupOf groupsOf least from same width size padded tyTo tyAt classOf firstBad firstBadEntry entryRight factsRight tableIn sevenBitGroups entryFrom entriesFrom ladder
 tableEdges-hold = refl
 
 -- Unit and unit + unit, with byte i of the second group greater by one: whichever byte it is, it is told, at that node.
@@ -120,50 +120,71 @@ pub byteEdges-hold : map defined byteEdges ≡ map paper byteEdges
 unfolding byteEdges unitGroup groupWith defined paper low factIn least from same width size padded tyTo tyAt classOf firstBad entryRight factsRight ladder
 byteEdges-hold = refl
 
+-- Tables of a few nodes, whose facts are numbers: each call over them judges those few.
+-- Unit and unit × unit, which is as empty but no unit.
+unfoldable tableE : Table
+tableE = columnsTable (0 ∷ 2 ∷ []) (0 ∷ 0 ∷ []) (0 ∷ 0 ∷ []) (0 ∷ 0 ∷ []) (1 ∷ 3 ∷ []) (0 ∷ 0 ∷ []) (0 ∷ 1 ∷ []) 2
+
+-- Unit, 2, 2 again, unit + 2, 2 + unit and 2 × 2.
+unfoldable tableO : Table
+tableO =
+    columnsTable (0 ∷ 1 ∷ 1 ∷ 1 ∷ 1 ∷ 2 ∷ []) (0 ∷ 0 ∷ 0 ∷ 0 ∷ 1 ∷ 1 ∷ []) (0 ∷ 0 ∷ 0 ∷ 1 ∷ 0 ∷ 1 ∷ []) (0 ∷ 1 ∷ 1 ∷ 2 ∷ 2 ∷ 2 ∷ [])
+    (1 ∷ 3 ∷ 3 ∷ 5 ∷ 5 ∷ 7 ∷ []) (0 ∷ 0 ∷ 0 ∷ 1 ∷ 1 ∷ 0 ∷ []) (0 ∷ 1 ∷ 1 ∷ 3 ∷ 4 ∷ 5 ∷ []) 6
+
+-- Unit, 2, 2 × 2, 2 + (2 × 2), which is padded, and the product of that and 2.
+unfoldable tableP : Table
+tableP =
+    columnsTable (0 ∷ 1 ∷ 2 ∷ 1 ∷ 2 ∷ []) (0 ∷ 0 ∷ 1 ∷ 1 ∷ 3 ∷ []) (0 ∷ 0 ∷ 1 ∷ 2 ∷ 1 ∷ []) (0 ∷ 1 ∷ 2 ∷ 3 ∷ 4 ∷ []) (1 ∷ 3 ∷ 7 ∷ 11 ∷ 15 ∷ [])
+    (0 ∷ 0 ∷ 0 ∷ 1 ∷ 1 ∷ []) (0 ∷ 1 ∷ 2 ∷ 3 ∷ 4 ∷ []) 5
+
 -- Bounds, views, order, constructors, both codecs and cuts at their edges.
 pub recordEdges : List Sample
 recordEdges =
-    sample (count (paddedLenCall tableS (record-of [] 0 0))) (count (accepted 0))
-    ∷ sample (count (paddedLenCall tableS (record-of [] 1 0))) (count (refused 5 0))
-    ∷ sample (count (paddedLenCall tableS (record-of [] (2 ^ 64 - 1) 2))) (count (refused 5 0))
-    ∷ sample (count (paddedLenCall tableS (record-of (0 ∷ []) 8 2))) (count (accepted 0))
-    ∷ sample (count (paddedLenCall tableS (record-of (0 ∷ []) 8 1))) (count (refused 5 0))
-    ∷ sample (count (paddedLenCall tableS (record-of [] 99 10))) (count (refused 2 0))
-    ∷ sample (order (compareCall tableS (one 0x60 4) (one 0x40 4))) (order (accepted Ordering·eq))
-    ∷ sample (order (compareCall tableS (one 0x80 4) (one 0x40 4))) (order (accepted Ordering·gt))
-    ∷ sample (order (compareCall tableS (one 0x80 6) (one 0x80 1))) (order (accepted Ordering·eq))
-    ∷ sample (order (compareCall tableS (one 0x80 3) (one 0x00 8))) (order (accepted Ordering·lt))
-    ∷ sample (place (asRightCall tableS (one 0x60 5))) (place (refused 7 0))
-    ∷ sample (place (asRightCall tableS (one 0xC0 3))) (place (accepted (record { offset = 1; node = 1 })))
-    ∷ sample (place (asLeftCall tableS (one 0x60 4))) (place (refused 7 0))
-    ∷ sample (out (leftOut tableS (record-of (0x20 ∷ []) 2 1) 5 (0xFF ∷ 0xEE ∷ []))) (out (0x20 ∷ 0xEE ∷ []))
-    ∷ sample (count (noneCall tableS 3 [])) (count (refused 9 0))
-    ∷ sample (count (noneCall tableS 8 [])) (count (refused 7 0))
-    ∷ sample (out (someOut tableS (one 0x80 6) 3 spare)) (out (0xC0 ∷ 0xFF ∷ []))
-    ∷ sample (count (unitCall tableS 0 [])) (count (accepted 0))
-    ∷ sample (count (unitCall tableS 2 [])) (count (refused 7 0))
-    ∷ sample (out (productOut tableS (one 0x20 5) (one 0x80 1) 7 spare)) (out (0x30 ∷ 0xFF ∷ []))
-    ∷ sample (count (productCall tableS (one 0x80 1) (one 0x20 5) 7 spare)) (count (refused 7 0))
-    ∷ sample (count (fromCompactCall tableS (stream-of [] 1 0) 0 [])) (count (refused 5 0))
-    ∷ sample (count (fromCompactCall tableS (stream-of (0x00 ∷ []) 4 5) 0 [])) (count (refused 5 0))
-    ∷ sample (count (fromCompactCall tableS (stream-of (0x00 ∷ []) 8 8) 0 [])) (count (accepted 8))
-    ∷ sample (count (fromPaddedCall tableS (stream-of (0x60 ∷ []) 3 0) 5 [])) (count (refused 9 0))
-    ∷ sample (count (fromPaddedCall tableS (stream-of (0x60 ∷ []) 2 0) 5 [])) (count (refused 8 0))
-    ∷ sample (count (fromPaddedCall tableS (stream-of (0x63 ∷ []) 8 5) 5 spare)) (count (accepted 8))
-    ∷ sample (out (fromPaddedOut tableS (stream-of (0x63 ∷ []) 8 5) 5 spare)) (out (0x60 ∷ 0xFF ∷ []))
-    ∷ sample (count (fromPaddedCall tableS (stream-of (0x60 ∷ []) 8 6) 5 [])) (count (refused 8 0))
-    ∷ sample (count (fromCompactCall tableS (stream-of (0x60 ∷ []) (2 ^ 64 - 1) 0) 5 [])) (count (refused 5 0))
-    ∷ sample (count (fromCompactCall tableS (stream-of (0x60 ∷ []) 8 (2 ^ 64 - 1)) 5 [])) (count (refused 5 0))
-    ∷ sample (out (toPaddedOut tableS (record-of (0x33 ∷ []) 1 5) spare)) (out (0x60 ∷ 0xFF ∷ []))
-    ∷ sample (count (pruneCall tableS (one 0x00 0) 2 spare)) (count (refused 7 0))
-    ∷ sample (count (pruneCall tableS (one 0x00 2) 0 [])) (count (accepted 0))
-    ∷ sample (out (pruneOut tableS (one 0xF0 7) 7 spare)) (out (0xF0 ∷ 0xFF ∷ []))
-    ∷ sample (count (pruneCall tableS (one 0x70 7) 10 spare)) (count (refused 2 0))
+    sample (count (paddedLenCall tableE (record-of [] 0 0))) (count (accepted 0))
+    ∷ sample (count (paddedLenCall tableE (record-of [] 1 0))) (count (refused 5 0))
+    ∷ sample (count (paddedLenCall tableE (record-of [] (2 ^ 64 - 1) 1))) (count (refused 5 0))
+    ∷ sample (count (paddedLenCall tableE (record-of (0 ∷ []) 8 1))) (count (accepted 0))
+    ∷ sample (count (paddedLenCall tableO (record-of (0 ∷ []) 8 1))) (count (refused 5 0))
+    ∷ sample (count (paddedLenCall tableP (record-of [] 99 5))) (count (refused 2 0))
+    ∷ sample (order (compareCall tableP (one 0x60 2) (one 0x40 2))) (order (accepted Ordering·eq))
+    ∷ sample (order (compareCall tableP (one 0x80 2) (one 0x40 2))) (order (accepted Ordering·gt))
+    ∷ sample (order (compareCall tableO (one 0x80 2) (one 0x80 1))) (order (accepted Ordering·eq))
+    ∷ sample (order (compareCall tableO (one 0x80 3) (one 0x00 4))) (order (accepted Ordering·lt))
+    ∷ sample (place (asRightCall tableP (one 0x60 3))) (place (refused 7 0))
+    ∷ sample (place (asRightCall tableO (one 0xC0 3))) (place (accepted (record { offset = 1; node = 1 })))
+    ∷ sample (place (asLeftCall tableP (one 0x60 2))) (place (refused 7 0))
+    ∷ sample (out (leftOut tableP (record-of (0x20 ∷ []) 2 1) 3 (0xFF ∷ 0xEE ∷ []))) (out (0x20 ∷ 0xEE ∷ []))
+    ∷ sample (count (noneCall tableO 3 [])) (count (refused 9 0))
+    ∷ sample (count (noneCall tableO 4 [])) (count (refused 7 0))
+    ∷ sample (out (someOut tableO (one 0x80 2) 3 spare)) (out (0xC0 ∷ 0xFF ∷ []))
+    ∷ sample (count (unitCall tableE 0 [])) (count (accepted 0))
+    ∷ sample (count (unitCall tableE 1 [])) (count (refused 7 0))
+    ∷ sample (out (productOut tableP (one 0x20 3) (one 0x80 1) 4 spare)) (out (0x30 ∷ 0xFF ∷ []))
+    ∷ sample (count (productCall tableP (one 0x80 1) (one 0x20 3) 4 spare)) (count (refused 7 0))
+    ∷ sample (count (fromCompactCall tableE (stream-of [] 1 0) 0 [])) (count (refused 5 0))
+    ∷ sample (count (fromCompactCall tableE (stream-of (0x00 ∷ []) 4 5) 0 [])) (count (refused 5 0))
+    ∷ sample (count (fromCompactCall tableE (stream-of (0x00 ∷ []) 8 8) 0 [])) (count (accepted 8))
+    ∷ sample (count (fromPaddedCall tableP (stream-of (0x60 ∷ []) 3 0) 3 [])) (count (refused 9 0))
+    ∷ sample (count (fromPaddedCall tableP (stream-of (0x60 ∷ []) 2 0) 3 [])) (count (refused 8 0))
+    ∷ sample (count (fromPaddedCall tableP (stream-of (0x63 ∷ []) 8 5) 3 spare)) (count (accepted 8))
+    ∷ sample (out (fromPaddedOut tableP (stream-of (0x63 ∷ []) 8 5) 3 spare)) (out (0x60 ∷ 0xFF ∷ []))
+    ∷ sample (count (fromPaddedCall tableP (stream-of (0x60 ∷ []) 8 6) 3 [])) (count (refused 8 0))
+    ∷ sample (count (fromCompactCall tableP (stream-of (0x60 ∷ []) (2 ^ 64 - 1) 0) 3 [])) (count (refused 5 0))
+    ∷ sample (count (fromCompactCall tableP (stream-of (0x60 ∷ []) 8 (2 ^ 64 - 1)) 3 [])) (count (refused 5 0))
+    ∷ sample (out (toPaddedOut tableP (record-of (0x33 ∷ []) 1 3) spare)) (out (0x60 ∷ 0xFF ∷ []))
+    ∷ sample (count (pruneCall tableE (one 0x00 0) 1 spare)) (count (refused 7 0))
+    ∷ sample (count (pruneCall tableE (one 0x00 1) 0 [])) (count (accepted 0))
+    ∷ sample (out (pruneOut tableP (one 0xF0 4) 4 spare)) (out (0xF0 ∷ 0xFF ∷ []))
+    ∷ sample (count (pruneCall tableP (one 0x70 4) 5 spare)) (count (refused 2 0))
     ∷ []
 
 pub recordEdges-hold : map defined recordEdges ≡ map paper recordEdges
-unfolding recordEdges defined paper tableS tableB spare least from same bits width size padded tyTo tyAt classOf firstBad firstBadEntry entryRight factsRight tableIn groups entryFrom entriesFrom odd toBits bitsOf value packTo pack written compact sameBits orderBits decodeCompact decodePadded word wordWidths isWord asWord exponent buffer bufferBits ctx8 ctx8Bits cut ladder recordBits restOf
+unfolding recordEdges defined paper tableE tableO tableP spare least from same bits width size padded tyTo tyAt classOf firstBad firstBadEntry entryRight factsRight tableIn sevenBitGroups entryFrom entriesFrom odd toBits bitsOf value packTo pack written compact sameBits orderBits decodeCompact decodePadded word wordWidths isWord asWord exponent buffer bufferBits ctx8 ctx8Bits cut ladder recordBits restOf
 recordEdges-hold = refl
+
+-- The words of table B alone.
+unfoldable tableW : Table
+tableW = record { columns = tableB .columns; facts = tableB .facts; count = 6 }
 
 -- Words, byte arrays, joins, buffers and the hash state at their edges.
 pub wordEdges : List Sample
@@ -180,32 +201,32 @@ wordEdges =
     ∷ sample (number (exponent 3)) (number 29)
     ∷ sample (number (exponent (2 ^ 28))) (number 28)
     ∷ sample (number (exponent (2 ^ 29))) (number 29)
-    ∷ sample (count (asWordCall tableS 3)) (count (refused 7 0))
-    ∷ sample (count (asWordCall tableS 4)) (count (accepted 1))
-    ∷ sample (count (asWordCall tableS 6)) (count (accepted 0))
-    ∷ sample (count (asWordCall tableS 0)) (count (refused 7 0))
-    ∷ sample (count (asWordCall tableS 10)) (count (refused 2 0))
-    ∷ sample (count (numberCall tableS 0 2 1 [])) (count (refused 6 0))
-    ∷ sample (count (numberCall tableS 1 4 4 [])) (count (refused 6 0))
-    ∷ sample (count (numberCall tableS 1 4 99 [])) (count (refused 2 0))
-    ∷ sample (count (numberCall tableS 1 3 3 [])) (count (refused 7 0))
-    ∷ sample (count (numberCall tableS 1 3 4 [])) (count (refused 9 0))
-    ∷ sample (out (numberOut tableS 1 2 4 spare)) (out (0x80 ∷ 0xFF ∷ []))
-    ∷ sample (count (bytesCall tableB 3 [] 4 spare)) (count (refused 6 0))
-    ∷ sample (out (bytesOut tableB 4 (0x12 ∷ 0x34 ∷ []) 5 spare)) (out (0x12 ∷ 0x34 ∷ []))
-    ∷ sample (count (arrayCall tableB [] 4 [])) (count (refused 6 0))
-    ∷ sample (count (arrayCall tableB (1 ∷ 2 ∷ 3 ∷ []) 4 [])) (count (refused 6 0))
-    ∷ sample (count (arrayCall tableB (1 ∷ []) 3 [])) (count (refused 7 0))
-    ∷ sample (count (joinCall tableS (one 0x80 1) (one 0x80 6) 4 spare)) (count (accepted 2))
-    ∷ sample (out (joinOut tableS (one 0x80 1) (record-of (0x40 ∷ []) 1 6) 4 spare)) (out (0xC0 ∷ 0xFF ∷ []))
-    ∷ sample (count (joinCall tableS (one 0x80 3) (one 0x80 3) 4 spare)) (count (refused 7 0))
-    ∷ sample (out (joinOut tableB (one 0x12 4) (one 0x34 4) 5 spare)) (out (0x12 ∷ 0x34 ∷ []))
-    ∷ sample (count (wordReadCall tableS (stream-of (0x60 ∷ []) 8 0) 32 3 [])) (count (refused 6 0))
-    ∷ sample (count (wordReadCall tableS (stream-of (0x60 ∷ []) 8 0) 1 3 [])) (count (refused 7 0))
-    ∷ sample (count (wordReadCall tableS (stream-of (0x60 ∷ []) 8 7) 1 4 [])) (count (refused 8 0))
-    ∷ sample (count (wordReadCall tableS (stream-of (0x60 ∷ []) 8 6) 1 4 [])) (count (refused 9 0))
-    ∷ sample (count (wordReadCall tableS (stream-of (0x60 ∷ []) 8 6) 1 4 spare)) (count (accepted 8))
-    ∷ sample (count (wordReadCall tableS (stream-of (0x60 ∷ []) 9 6) 77 4 spare)) (count (refused 5 0))
+    ∷ sample (count (asWordCall tableO 3)) (count (refused 7 0))
+    ∷ sample (count (asWordCall tableO 5)) (count (accepted 1))
+    ∷ sample (count (asWordCall tableO 2)) (count (accepted 0))
+    ∷ sample (count (asWordCall tableO 0)) (count (refused 7 0))
+    ∷ sample (count (asWordCall tableO 6)) (count (refused 2 0))
+    ∷ sample (count (numberCall tableO 0 2 1 [])) (count (refused 6 0))
+    ∷ sample (count (numberCall tableO 1 4 5 [])) (count (refused 6 0))
+    ∷ sample (count (numberCall tableO 1 4 99 [])) (count (refused 2 0))
+    ∷ sample (count (numberCall tableO 1 3 3 [])) (count (refused 7 0))
+    ∷ sample (count (numberCall tableO 1 3 5 [])) (count (refused 9 0))
+    ∷ sample (out (numberOut tableO 1 2 5 spare)) (out (0x80 ∷ 0xFF ∷ []))
+    ∷ sample (count (bytesCall tableW 3 [] 4 spare)) (count (refused 6 0))
+    ∷ sample (out (bytesOut tableW 4 (0x12 ∷ 0x34 ∷ []) 5 spare)) (out (0x12 ∷ 0x34 ∷ []))
+    ∷ sample (count (arrayCall tableW [] 4 [])) (count (refused 6 0))
+    ∷ sample (count (arrayCall tableW (1 ∷ 2 ∷ 3 ∷ []) 4 [])) (count (refused 6 0))
+    ∷ sample (count (arrayCall tableW (1 ∷ []) 3 [])) (count (refused 7 0))
+    ∷ sample (count (joinCall tableO (one 0x80 1) (one 0x80 2) 5 spare)) (count (accepted 2))
+    ∷ sample (out (joinOut tableO (one 0x80 1) (record-of (0x40 ∷ []) 1 2) 5 spare)) (out (0xC0 ∷ 0xFF ∷ []))
+    ∷ sample (count (joinCall tableO (one 0x80 3) (one 0x80 3) 5 spare)) (count (refused 7 0))
+    ∷ sample (out (joinOut tableW (one 0x12 4) (one 0x34 4) 5 spare)) (out (0x12 ∷ 0x34 ∷ []))
+    ∷ sample (count (wordReadCall tableO (stream-of (0x60 ∷ []) 8 0) 32 3 [])) (count (refused 6 0))
+    ∷ sample (count (wordReadCall tableO (stream-of (0x60 ∷ []) 8 0) 1 3 [])) (count (refused 7 0))
+    ∷ sample (count (wordReadCall tableO (stream-of (0x60 ∷ []) 8 7) 1 5 [])) (count (refused 8 0))
+    ∷ sample (count (wordReadCall tableO (stream-of (0x60 ∷ []) 8 6) 1 5 [])) (count (refused 9 0))
+    ∷ sample (count (wordReadCall tableO (stream-of (0x60 ∷ []) 8 6) 1 5 spare)) (count (accepted 8))
+    ∷ sample (count (wordReadCall tableO (stream-of (0x60 ∷ []) 9 6) 77 5 spare)) (count (refused 5 0))
     ∷ sample (count (bufferCall tableB (2 ^ 64 - 1) (1 ∷ []) 4 [])) (count (refused 6 0))
     ∷ sample (count (bufferCall tableB 0 (1 ∷ 2 ∷ []) 6 spare)) (count (refused 6 0))
     ∷ sample (out (bufferOut tableB 1 (0xFF ∷ []) 8 (9 ∷ 9 ∷ 9 ∷ 9 ∷ []))) (out (0x00 ∷ 0x00 ∷ 0x7F ∷ 0xC0 ∷ []))
@@ -220,7 +241,7 @@ wordEdges =
     ∷ []
 
 pub wordEdges-hold : map defined wordEdges ≡ map paper wordEdges
-unfolding wordEdges defined paper tableS tableB spare least from same bits width size padded tyTo tyAt classOf firstBad firstBadEntry entryRight factsRight tableIn groups entryFrom entriesFrom odd toBits bitsOf value packTo pack written compact sameBits orderBits decodeCompact decodePadded word wordWidths isWord asWord exponent buffer bufferBits ctx8 ctx8Bits cut ladder recordBits restOf
+unfolding wordEdges defined paper tableO tableW tableB spare least from same bits width size padded tyTo tyAt classOf firstBad firstBadEntry entryRight factsRight tableIn sevenBitGroups entryFrom entriesFrom odd toBits bitsOf value packTo pack written compact sameBits orderBits decodeCompact decodePadded word wordWidths isWord asWord exponent buffer bufferBits ctx8 ctx8Bits cut ladder recordBits restOf
 wordEdges-hold = refl
 
 -- The fixed list is 2 to the n, for n from 0 to 31.

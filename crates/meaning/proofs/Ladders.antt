@@ -1,8 +1,10 @@
 -- Laws of the ladder: how a part of it answers for the whole, and what an accepted table is.
 --
 --   ladder-pass ladder-stop     a first part that accepts hands on to the rest; one that refuses decides
+--   ladder-parts                a ladder in two parts accepts where both do
 --   ladder-holds                a rung whose fact holds refuses
 --   ladder-fails                a rung whose fact fails hands on
+--   ladder-value                a ladder accepts nothing but its value
 --   accepted-refused            an accepted answer is no refusal
 --   sound-accepted accepted-sound   `check_table` accepts exactly the sound tables
 --   kept-refused kept-accepted  a buffer after a refusal, and after an accepted call
@@ -57,6 +59,13 @@ ladder-stop [] ss b a n p h = absurd (accepted-refused b n p h)
 ladder-stop (rung true m q ∷ rs) ss b a n p h = same-refusal m q n p h
 ladder-stop (rung false m q ∷ rs) ss b a n p h = ladder-stop rs ss b a n p h
 
+-- A ladder in two parts accepts where both do.
+pub ladder-parts : {A B : Type 0} (rs ss : List Rung) (b : B) (a v : A) → ladder (rs ++ ss) a ≡ accepted v → (ladder rs b ≡ accepted b) × (ladder ss a ≡ accepted v)
+unfolding ladder
+ladder-parts [] ss b a v h = (refl, h)
+ladder-parts (rung true n p ∷ rs) ss b a v h = absurd (accepted-refused v n p (sym h))
+ladder-parts (rung false n p ∷ rs) ss b a v h = ladder-parts rs ss b a v h
+
 pub ladder-holds : {A : Type 0} (b : Bool) (n p : ℕ) (rs : List Rung) (a : A) → b ≡ true → ladder (rung b n p ∷ rs) a ≡ refused n p
 unfolding ladder
 ladder-holds b n p rs a h = ap (λ (x : Bool). ladder (rung x n p ∷ rs) a) h
@@ -64,6 +73,17 @@ ladder-holds b n p rs a h = ap (λ (x : Bool). ladder (rung x n p ∷ rs) a) h
 pub ladder-fails : {A : Type 0} (b : Bool) (n p : ℕ) (rs : List Rung) (a : A) → b ≡ false → ladder (rung b n p ∷ rs) a ≡ ladder rs a
 unfolding ladder
 ladder-fails b n p rs a h = ap (λ (x : Bool). ladder (rung x n p ∷ rs) a) h
+
+-- What was accepted, or another value.
+abbrev valueOr : {A : Type 0} → A → Answer A → A
+valueOr d (refused n p) = d
+valueOr d (accepted a) = a
+
+pub ladder-value : {A : Type 0} (rs : List Rung) (a v : A) → accepted v ≡ ladder rs a → v ≡ a
+unfolding ladder
+ladder-value [] a v h = ap (valueOr a) h
+ladder-value (rung true n p ∷ rs) a v h = absurd (accepted-refused v n p h)
+ladder-value (rung false n p ∷ rs) a v h = ladder-value rs a v h
 
 pub kept-refused : {A : Type 0} (a : Answer A) (n p : ℕ) (before after : List ℕ) → a ≡ refused n p → kept a before after ≡ before
 kept-refused a n p before after h = ap (λ x. kept x before after) h

@@ -7,7 +7,7 @@ use Prim.Native.Nat.{ℕ}
 use Rattle.meaning.specs.Choice.{least, from}
 use Rattle.meaning.specs.Types.{same, bits, width, size, padded}
 use Rattle.meaning.specs.Tables.{tyTo, tyAt, classOf, firstBad, firstBadEntry, entryRight, factsRight}
-use Rattle.meaning.specs.Files.{tableIn, groups, entryFrom, entriesFrom}
+use Rattle.meaning.specs.Files.{tableIn, sevenBitGroups, entryFrom, entriesFrom}
 use Rattle.meaning.specs.Bits.{odd, toBits, bitsOf, value, packTo, pack, written}
 use Rattle.meaning.specs.Records.{compact, sameBits, orderBits}
 use Rattle.meaning.specs.Codecs.{decodeCompact, decodePadded}
@@ -74,5 +74,5 @@ samples =
 
 -- The definitions say what the paper says.
 pub marked : map defined samples ≡ map paper samples
-unfolding samples at defined paper tableS tableB spare least from same bits width size padded tyTo tyAt classOf firstBad firstBadEntry entryRight factsRight tableIn groups entryFrom entriesFrom odd toBits bitsOf value packTo pack written compact sameBits orderBits decodeCompact decodePadded word wordWidths isWord asWord exponent buffer bufferBits ctx8 ctx8Bits cut ladder recordBits restOf
+unfolding samples at defined paper tableS tableB spare least from same bits width size padded tyTo tyAt classOf firstBad firstBadEntry entryRight factsRight tableIn sevenBitGroups entryFrom entriesFrom odd toBits bitsOf value packTo pack written compact sameBits orderBits decodeCompact decodePadded word wordWidths isWord asWord exponent buffer bufferBits ctx8 ctx8Bits cut ladder recordBits restOf
 marked = refl

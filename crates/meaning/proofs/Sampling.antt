@@ -8,7 +8,7 @@ use Rattle.meaning.specs.Choice.{least, from}
 use Rattle.meaning.specs.Types.{same, width, size, padded}
 use Rattle.meaning.specs.Groups.{low, lowBytes, factIn}
 use Rattle.meaning.specs.Tables.{tyTo, tyAt, classOf, Table, columns, facts, factsIn, NodeFacts}
-use Rattle.meaning.specs.Files.{Entry, tableIn, groups, entryFrom, entriesFrom, columnsOf}
+use Rattle.meaning.specs.Files.{Entry, tableIn, sevenBitGroups, entryFrom, entriesFrom, columnsOf}
 use Rattle.meaning.specs.Words.{buffer}
 use Rattle.meaning.specs.Ladder.{Answer, Record, record-of}
 use Rattle.meaning.specs.TypeCalls.{entriesIn, groupOf, groupsOf}
@@ -31,7 +31,7 @@ tableS =
 
 -- It is what its file says.
 fileS : tableFrom (0x0A ∷ 0x00 ∷ 0x01 ∷ 0x00 ∷ 0x00 ∷ 0x02 ∷ 0x00 ∷ 0x00 ∷ 0x01 ∷ 0x00 ∷ 0x01 ∷ 0x02 ∷ 0x01 ∷ 0x01 ∷ 0x01 ∷ 0x01 ∷ 0x04 ∷ 0x01 ∷ 0x00 ∷ 0x00 ∷ 0x02 ∷ 0x05 ∷ 0x01 ∷ 0x01 ∷ 0x01 ∷ 0x00 ∷ 0x01 ∷ 0x01 ∷ 0x02 ∷ []) ≡ tableS
-unfolding tableS tableFrom tableOf groupOf groupsOf low lowBytes factIn from same width size padded tyTo tyAt classOf least tableIn groups entryFrom entriesFrom
+unfolding tableS tableFrom tableOf groupOf groupsOf low lowBytes factIn from same width size padded tyTo tyAt classOf least tableIn sevenBitGroups entryFrom entriesFrom
 fileS = refl
 
 -- A table with the words 0 to 4 (nodes 1 to 5) and buffer types 0 and 1 (nodes 6 and 8).
@@ -43,7 +43,7 @@ tableB =
 
 -- It is what its file says.
 fileB : tableFrom (0x09 ∷ 0x00 ∷ 0x01 ∷ 0x00 ∷ 0x00 ∷ 0x02 ∷ 0x01 ∷ 0x01 ∷ 0x02 ∷ 0x02 ∷ 0x02 ∷ 0x02 ∷ 0x03 ∷ 0x03 ∷ 0x02 ∷ 0x04 ∷ 0x04 ∷ 0x01 ∷ 0x00 ∷ 0x04 ∷ 0x01 ∷ 0x00 ∷ 0x05 ∷ 0x02 ∷ 0x07 ∷ 0x06 ∷ []) ≡ tableB
-unfolding tableB tableFrom tableOf groupOf groupsOf low lowBytes factIn from same width size padded tyTo tyAt classOf least tableIn groups entryFrom entriesFrom
+unfolding tableB tableFrom tableOf groupOf groupsOf low lowBytes factIn from same width size padded tyTo tyAt classOf least tableIn sevenBitGroups entryFrom entriesFrom
 fileB = refl
 
 -- What a call answers, or leaves in its output.
@@ -72,6 +72,6 @@ paper (sample d p) = p
 unfoldable pub spare : List ℕ
 spare = 0xFF ∷ 0xFF ∷ []
 
--- A record of table S that begins a byte.
+-- A record that begins a byte.
 abbrev pub one : ℕ → ℕ → Record
 one b n = record-of (b ∷ []) 0 n

@@ -1,6 +1,7 @@
 -- Laws of joined tests.
 --
 --   and-left and-right and-both     both tests of a conjunction
+--   and-no-left and-no-right        a conjunction whose first test fails; whose second does
 --   or-false-left or-false-right or-none    a disjunction that fails
 --   or-inl or-inr                   a disjunction that passes
 --   cond-true cond-false            a choice whose test is known
@@ -18,6 +19,13 @@ and-right false b h = absurd (false≢true h)
 
 pub and-both : (a b : Bool) → a ≡ true → b ≡ true → (a && b) ≡ true
 and-both a b p q = rw (p, q)
+
+pub and-no-left : (a b : Bool) → a ≡ false → (a && b) ≡ false
+and-no-left a b h = rw h
+
+pub and-no-right : (a b : Bool) → b ≡ false → (a && b) ≡ false
+and-no-right true b h = h
+and-no-right false b h = refl
 
 pub or-false-left : (a b : Bool) → (a || b) ≡ false → a ≡ false
 or-false-left true b h = h

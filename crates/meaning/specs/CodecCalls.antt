@@ -1,6 +1,9 @@
 -- The calls of the two codecs.
 --
 --   reads readOut               a reader's answer and output, from what it decodes
+--   readRungs writeRungs        1 to 5 of a reader, and of a writer
+--   compactIn paddedIn          what a reader decodes
+--   compactBits                 what the compact writer writes
 --   fromCompactCall fromPaddedCall toCompactCall toPaddedCall, and the same with Out for the output
 use Prim.Native.Nat.{ℕ, _+_}
 use mathlib.Core.Bool.{Bool}

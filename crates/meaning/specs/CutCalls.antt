@@ -1,4 +1,7 @@
 -- The call `prune`.
+--
+--   isCut cutBits cutOf         whether a record can be cut, the bits of the cut, and both of a record and a target
+--   pruneRungs pruneCall pruneOut   its rungs, its answer and its output
 use Prim.Native.Nat.{ℕ}
 use mathlib.Core.Bool.{Bool, true, false}
 use mathlib.Core.List.{List, [], _∷_}

@@ -1,18 +1,18 @@
 -- The file form of a table, with the place of every fault: document 01, "The type table".
 --
 --   Reading                     what is read, with the offset after it; or the place of the fault
---   groups                      a number in groups of seven bits, shortest form, at most two groups
+--   sevenBitGroups numberAt     a number in groups of seven bits, shortest form; one of at most two groups
 --   number                      such a number in its range
 --   andThen                     one reading after another
 --   Entry                       a node as the file has it
 --   entryOf entryFrom entriesFrom   a node of a kind, a node, several nodes
 --   ended tableIn               the nodes of a whole file, after which nothing follows
 --   columnsOf                   the columns that hold them
-use Prim.Native.Nat.{ℕ, zero, suc, _+_, _*_, _-_, _%_}
-use mathlib.Core.Bool.{Bool, true, false, cond, _&&_}
+use Prim.Native.Nat.{ℕ, zero, suc, _+_, _*_, _%_}
+use mathlib.Core.Bool.{Bool, cond}
 use mathlib.Core.List.{List, [], _∷_, map}
 use lib.ListN.{length, getD}
-use lib.Dec.{eqb, ltb, leb}
+use lib.Dec.{ltb, leb}
 use Rattle.meaning.specs.Tables.{Columns, columns, countRight}
 
 -- What was read and the offset after it, or the place of the first fault.
@@ -25,21 +25,26 @@ abbrev pub andThen : {A B : Type 0} → Reading A → (A → ℕ → Reading B) 
 andThen (faulty p) next = faulty p
 andThen (found a at) next = next a at
 
--- The number whose first byte stands at an offset: one group below 128, or two of which the last is neither 0 (not the shortest form) nor
--- marked (a third would follow). A number that the file's end cuts off is faulty.
-unfoldable pub groups : List ℕ → ℕ → Reading ℕ
-groups file at =
+-- A number from one of its groups on, of which at most k are left: seven bits each, the low group first, and the top bit set on all but the
+-- last. In the shortest form what follows a group is not 0. A number that has more groups, or that the file's end cuts off, is faulty, and
+-- the place of every fault is the offset of its first byte.
+unfoldable pub sevenBitGroups : ℕ → List ℕ → ℕ → ℕ → Reading ℕ
+sevenBitGroups zero file first at = faulty first
+sevenBitGroups (suc k) file first at =
     cond (ltb at (length file))
     (cond (ltb (getD file at 0) 128)
     (found (getD file at 0) (at + 1))
-    (cond (ltb (at + 1) (length file) && leb 1 (getD file (at + 1) 0) && ltb (getD file (at + 1) 0) 128)
-    (found (getD file at 0 % 128 + 128 * getD file (at + 1) 0) (at + 2))
-    (faulty at)))
-    (faulty at)
+    (andThen (sevenBitGroups k file first (at + 1))
+    (λ rest next. cond (leb 1 rest) (found (getD file at 0 % 128 + 128 * rest) next) (faulty first))))
+    (faulty first)
+
+-- The number whose first byte stands at an offset: it has at most two groups.
+abbrev pub numberAt : List ℕ → ℕ → Reading ℕ
+numberAt file at = sevenBitGroups 2 file at at
 
 -- A number that passes the test of its range; else it is faulty, and its place is its first byte.
 abbrev pub number : (ℕ → Bool) → List ℕ → ℕ → Reading ℕ
-number inRange file at = andThen (groups file at) (λ n next. cond (inRange n) (found n next) (faulty at))
+number inRange file at = andThen (numberAt file at) (λ n next. cond (inRange n) (found n next) (faulty at))
 
 -- A node as the file has it.
 pub record Entry : Type 0 where

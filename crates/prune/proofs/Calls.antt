@@ -1,9 +1,9 @@
 -- The laws of `prune` as a caller meets them, over any table, record and target within the limits and any output with room enough. They speak
 -- of the equations that the call is proved to meet, `pruneCall` for its answer and `pruneOut` for its output.
 --
---   Within                      a sound table, a record and a target within the limits
 --   pruned                      the record that the call has written: at bit 0 of the output, of the target's type
---   prune-cut                   an accepted call has cut the record
+--   prune-held prune-named prune-width  an accepted call was handed a record and a target within the limits, and answers the target's width
+--   prune-cut pruned-held       it has cut the record, and what it wrote is a record, ready for the next call
 --   cut-prunes                  a record that can be cut is cut, where there is room
 --   prune-prune                 demand 3: cut to a and then to b, or straight to b
 --   prune-own                   cut to its own type, a record keeps every bit
@@ -11,226 +11,150 @@
 --   prune-plain                 a record with zero padding stays one
 --   prune-compact               records with the same compact bits are accepted alike, with the same compact bits
 --   prune-own-bits              answer and output depend on the record's own bits alone
---   prune-settled               any two results that the contract allows are equal
 -- Assumes nothing.
-use mathlib.Core.Path.{_≡_, ap, ap₂, sym, _∙_, subst}
-use mathlib.Core.Bool.{Bool, true, false, not, _||_}
-use mathlib.Core.List.{List, [], _∷_, _++_, append-assoc}
-use mathlib.Core.Option.{Option, none, some}
-use Prim.Native.Nat.{ℕ, _+_, _-_, _*_, _≤_}
+use mathlib.Core.Path.{_≡_, refl, ap, ap₂, sym, _∙_, subst}
+use mathlib.Core.Bool.{Bool, true}
+use mathlib.Core.List.{List, [], _∷_}
+use mathlib.Core.Option.{Option, some}
+use Prim.Native.Nat.{ℕ, _≤_}
 use native.Mathlib.Omega.{arith}
-use lib.Dec.{ltb, leb}
-use lib.ListN.{length, take, drop}
-use lib.Seq.{take-at}
-use borrow.Author.Tests.{lt-leb, le-ltb, ltb-false, not-false}
-use Rattle.meaning.specs.Types.{Ty, unit, bits, size}
+use lib.ListN.{length}
+use Rattle.meaning.specs.Types.{Ty, unit, bits}
 use Rattle.meaning.specs.Tables.{Table}
-use Rattle.meaning.specs.Bits.{bitsOf, zeros, room, packTo, pack, written}
+use Rattle.meaning.specs.Bits.{room, packTo, pack, written}
 use Rattle.meaning.specs.Records.{compact, plain}
 use Rattle.meaning.specs.Cuts.{cut}
-use Rattle.meaning.specs.Checked.{Sound}
-use Rattle.meaning.specs.Ladder.{Answer, accepted, Rung, ladder, kept, named, within, Record, record-of, typeAt, typeOf, recordBits, shaped, roomFor}
+use Rattle.meaning.specs.Ladder.{Answer, accepted, ladder, Record, record-of, typeAt, typeOf, recordBits, shaped, makes, made}
 use Rattle.meaning.specs.RecordCalls.{handed}
 use Rattle.meaning.specs.CutCalls.{isCut, cutBits, cutOf, pruneRungs, pruneCall, pruneOut}
 use Rattle.meaning.proofs.Records.{bits-unit}
-use Rattle.meaning.proofs.Ladders.{ladder-pass, ladder-fails, ladder-clear, kept-accepted, sound-accepted}
-use Rattle.answers.specs.declared.Count.{Count}
-use Rattle.answers.specs.Verdicts.{countOf}
-use Rattle.answers.proofs.Settled.{count-settled}
-use Rattle.gate.proofs.Passed.{Allowed, Inside, ladder-parts, handed-passed}
-use Rattle.gate.proofs.Rungs.{named-pass}
-use Rattle.bits.proofs.OfBytes.{length-bitsOf}
-use Rattle.bits.proofs.Runs.{length-run}
-use Rattle.bits.proofs.Packed.{bitsOf-written, length-written}
+use Rattle.checked.specs.Passed.{Named, Held}
+use Rattle.checked.proofs.Passed.{handed-passed}
+use Rattle.checked.proofs.Passes.{handed-passes}
+use Rattle.checked.proofs.Made.{Accepted, accepts, done, handed-on, made-length, made-record}
+use Rattle.checked.proofs.Shaped.{shape-right, shape-accepted}
+use Rattle.checked.proofs.Lent.{own-length}
 use Rattle.laws.proofs.CutRules.{cut-same, cut-unit}
-use Rattle.laws.proofs.CutLaws.{length-cut, cut-cut, cut-plain, compact-cut}
-use Rattle.prune.proofs.CutSteps.{cut-is}
-use Rattle.prune.proofs.Answers.{Passes, prune-done}
-
--- A sound table, a record of one of its nodes that lies within its bytes, and a target: both types in the table and within the limits.
-pub record Within (t : Table) (r : Record) (target : ℕ) : Type 0 where
-  pub sound : Sound t
-  pub given : Allowed t (r .node)
-  pub goal : Allowed t target
-  pub inside : Inside t r
+use Rattle.laws.proofs.CutLaws.{cut-cut, cut-plain, compact-cut}
+use Rattle.prune_sides.proofs.CutSteps.{cut-is}
+use Rattle.prune.proofs.Lent.{cut-length}
 
 -- The record that a call has written.
 abbrev pub pruned : Table → Record → ℕ → List ℕ → Record
 pruned t r target out = record-of (pruneOut t r target out) 0 target
 
-none-of-two : (a b : Bool) → a ≡ false → b ≡ false → (a || (b || false)) ≡ false
-none-of-two a b e f = rw (e, f)
+-- After the first rungs answer and output depend on what the cut is.
+abbrev rest : List ℕ → Option (List Bool) → Answer ℕ
+rest out o = makes (shaped (isCut o)) (cutBits o) out
 
-none-of-one : (a : Bool) → a ≡ false → (a || false) ≡ false
-none-of-one a e = rw e
-
--- The first rungs let pass exactly what is within the limits.
-pub within-passes : (t : Table) (r : Record) (target : ℕ) → Within t r target → Passes t r target
-unfolding ladder
-within-passes t r target w =
-    let n = r .node in
-    let g = w .given in
-    let h = w .goal in
-    ladder-pass (named t (n ∷ target ∷ [])) (within t (r ∷ [])) (tt {0}) (tt {0}) (tt {0})
-    (sym
-    (named-pass t (n ∷ target ∷ []) (sound-accepted t (w .sound))
-    (none-of-two (leb (t .count) n) (leb (t .count) target) (lt-leb (t .count) n (g .here)) (lt-leb (t .count) target (h .here)))
-    (none-of-two (ltb 524288 (bits (typeAt t n))) (ltb 524288 (bits (typeAt t target))) (le-ltb 524288 (bits (typeAt t n)) (g .narrow))
-    (le-ltb 524288 (bits (typeAt t target)) (h .narrow)))
-    (none-of-two (ltb 2097152 (size (typeAt t n))) (ltb 2097152 (size (typeAt t target))) (le-ltb 2097152 (size (typeAt t n)) (g .few))
-    (le-ltb 2097152 (size (typeAt t target)) (h .few)))))
-    ∙ ladder-fails (ltb (8 * length (r .bytes)) (r .offset + bits (typeOf t r)) || false) 5 0 [] (tt {0})
-    (none-of-one (ltb (8 * length (r .bytes)) (r .offset + bits (typeOf t r)))
-    (le-ltb (8 * length (r .bytes)) (r .offset + bits (typeOf t r)) (w .inside .ends)))
-
-pub passes-within : (t : Table) (r : Record) (target : ℕ) → Passes t r target → Within t r target
-passes-within t r target h =
-    let p = handed-passed t (r ∷ []) (target ∷ []) h in
-    record { sound = p .0; given = p .1 .0; goal = p .1 .1 .0; inside = p .2 .0 }
-
--- What an accepted call has found.
-record Found (t : Table) (r : Record) (target : ℕ) (out : List ℕ) (n : ℕ) : Type 0 where
-  limits : Within t r target
-  has-cut : isCut (cutOf t r target) ≡ true
-  has-room : room (length (cutBits (cutOf t r target))) ≤ length out
-  answer : n ≡ length (cutBits (cutOf t r target))
-
-found : (t : Table) (r : Record) (target : ℕ) (out : List ℕ) (n : ℕ) → pruneCall t r target out ≡ accepted n → Found t r target out n
-unfolding ladder
-found t r target out n h =
-    let v = cutBits (cutOf t r target) in
-    let parts = ladder-parts (pruneRungs t r target) (roomFor v out) (tt {0}) (length v) n h in
-    let nine = ladder-clear (ltb (length out) (room (length v))) 9 0 [] (length v) n (parts .1) in
-    let firsts = ladder-parts (handed t (r ∷ []) (target ∷ [])) (shaped (isCut (cutOf t r target))) (tt {0}) (tt {0}) (tt {0}) (parts .0) in
-    let seven = ladder-clear (not (isCut (cutOf t r target))) 7 0 [] (tt {0}) (tt {0}) (firsts .1) in
-    let same : accepted (length v) ≡ accepted n = nine .1 in
-    record {
-      limits = passes-within t r target (firsts .0);
-      has-cut = not-false (isCut (cutOf t r target)) (seven .0);
-      has-room = ltb-false (length out) (room (length v)) (nine .0);
-      answer = cc;
-    }
-
--- After the first rungs the answer depends on what the cut is.
-rest : List ℕ → Option (List Bool) → Answer ℕ
-rest out o = ladder (shaped (isCut o) ++ roomFor (cutBits o) out) (length (cutBits o))
+abbrev restOut : List ℕ → Option (List Bool) → List ℕ
+restOut out o = made (shaped (isCut o)) (cutBits o) out
 
 module _ (t : Table) (r : Record) (target : ℕ) (out : List ℕ) where
-  record-length : Inside t r → length (recordBits t r) ≡ bits (typeOf t r)
-  unfolding recordBits
-  record-length i =
-      length-run (bitsOf (r .bytes)) (r .offset) (bits (typeOf t r))
-      (subst (λ (n : ℕ). r .offset + bits (typeOf t r) ≤ n) (sym (length-bitsOf (r .bytes))) (i .ends))
+  -- The first rungs let pass what is within the limits.
+  passes : Held t r → Named t target → ladder (handed t (r ∷ []) (target ∷ [])) (tt {0}) ≡ accepted (tt {0})
+  passes h g = handed-passes t (g .sound) (r ∷ []) (target ∷ []) (h, tt) (g, tt)
 
-  -- Bits that were written are those of a record at bit 0.
-  written-bits : (v : List Bool) → length v ≡ bits (typeAt t target) → recordBits t (record-of (written v out) 0 target) ≡ v
-  unfolding recordBits
-  written-bits v e =
-      ap (take (bits (typeAt t target))) (bitsOf-written v out)
-      ∙ take-at v (zeros (8 * room (length v) - length v) ++ drop (8 * room (length v)) (bitsOf out)) (bits (typeAt t target)) e
-
-  -- The cut x, written.
+  -- An accepted call.
   module _ (n : ℕ) (h : pruneCall t r target out ≡ accepted n) where
-    cut-here : cutOf t r target ≡ some (cutBits (cutOf t r target))
-    cut-here = cut-is (cutOf t r target) (found t r target out n h .has-cut)
+    found : Accepted (pruneRungs t r target) (cutBits (cutOf t r target)) out n
+    found = accepts (pruneRungs t r target) (cutBits (cutOf t r target)) out n h
+
+    shape : (ladder (handed t (r ∷ []) (target ∷ [])) (tt {0}) ≡ accepted (tt {0})) × (isCut (cutOf t r target) ≡ true)
+    shape = shape-accepted (handed t (r ∷ []) (target ∷ [])) (isCut (cutOf t r target)) (found .clear)
+
+    pub prune-held : Held t r
+    prune-held = handed-passed t (r ∷ []) (target ∷ []) (shape .0) .0 .0
+
+    pub prune-named : Named t target
+    prune-named = handed-passed t (r ∷ []) (target ∷ []) (shape .0) .1 .0
 
     cut-wide : length (cutBits (cutOf t r target)) ≡ bits (typeAt t target)
-    cut-wide =
-        length-cut (typeAt t target) (typeOf t r) (recordBits t r) (cutBits (cutOf t r target))
-        (record-length (found t r target out n h .limits .inside)) cut-here
-
-    out-here : pruneOut t r target out ≡ written (cutBits (cutOf t r target)) out
-    out-here = kept-accepted (pruneCall t r target out) n out (written (cutBits (cutOf t r target)) out) h
+    cut-wide = cut-length t r target prune-held (shape .1)
 
     pruned-bits : recordBits t (pruned t r target out) ≡ cutBits (cutOf t r target)
-    pruned-bits =
-        ap (λ (o : List ℕ). recordBits t (record-of o 0 target)) out-here ∙ written-bits (cutBits (cutOf t r target)) cut-wide
-
-    pub prune-within : Within t r target
-    prune-within = found t r target out n h .limits
+    pruned-bits = made-record t target (pruneRungs t r target) (cutBits (cutOf t r target)) out n h (sym cut-wide)
 
     pub prune-width : n ≡ bits (typeAt t target)
-    prune-width = found t r target out n h .answer ∙ cut-wide
+    prune-width = found .counts ∙ cut-wide
 
     pub prune-cut : cut (typeAt t target) (typeOf t r) (recordBits t r) ≡ some (recordBits t (pruned t r target out))
-    prune-cut = cut-here ∙ ap some (sym pruned-bits)
+    prune-cut = cut-is (cutOf t r target) (shape .1) ∙ ap some (sym pruned-bits)
 
     -- What was written is a record, ready for the next call.
-    pub pruned-inside : Inside t (pruned t r target out)
-    pruned-inside =
-        let f = found t r target out n h in
-        let l = f .has-room in
+    pub pruned-held : Held t (pruned t r target out)
+    pruned-held =
+        let l = found .roomy in
         let w = cut-wide in
-        let e : length (pruneOut t r target out) ≡ length out = ap length out-here ∙ length-written (cutBits (cutOf t r target)) out l in
-        record { ends = omega arith }
+        let e = made-length (pruneRungs t r target) (cutBits (cutOf t r target)) out n h in
+        record { named = prune-named; ends = omega arith }
 
   -- A record that can be cut to x is cut to it.
-  pub cut-prunes : (x : List Bool) → Within t r target → cut (typeAt t target) (typeOf t r) (recordBits t r) ≡ some x
+  pub cut-prunes : (x : List Bool) → Held t r → Named t target → cut (typeAt t target) (typeOf t r) (recordBits t r) ≡ some x
       → room (bits (typeAt t target)) ≤ length out
       → (pruneCall t r target out ≡ accepted (bits (typeAt t target))) × (recordBits t (pruned t r target out) ≡ x)
-  cut-prunes x w e l =
-      let wide : length (cutBits (cutOf t r target)) ≡ bits (typeAt t target) =
-      ap (λ (o : Option (List Bool)). length (cutBits o)) e
-      ∙ length-cut (typeAt t target) (typeOf t r) (recordBits t r) x (record-length (w .inside)) e in
-      let done : pruneCall t r target out ≡ accepted (bits (typeAt t target)) =
-      prune-done t r target out (within-passes t r target w) (ap isCut e)
-      (subst (λ (n : ℕ). room n ≤ length out) (sym wide) l)
-      ∙ ap accepted wide in
-      (done, pruned-bits (bits (typeAt t target)) done ∙ ap cutBits e)
+  cut-prunes x h g e l =
+      let v = cutBits (cutOf t r target) in
+      let wide : length v ≡ bits (typeAt t target) = cut-length t r target h (ap isCut e) in
+      let clear = shape-right (handed t (r ∷ []) (target ∷ [])) (isCut (cutOf t r target)) (passes h g) (ap isCut e) in
+      let roomy = subst (λ (n : ℕ). room n ≤ length out) (sym wide) l in
+      let a : pruneCall t r target out ≡ accepted (bits (typeAt t target)) =
+      sym (done (pruneRungs t r target) v out clear roomy (bits (typeAt t target)) (sym wide) (written v out) refl .0) in
+      (a, pruned-bits (bits (typeAt t target)) a ∙ ap cutBits e)
 
   -- Cut to its own type, a record keeps every bit, padding too.
-  pub prune-own : Within t r target → typeAt t target ≡ typeOf t r → room (bits (typeAt t target)) ≤ length out
+  pub prune-own : Held t r → Named t target → typeAt t target ≡ typeOf t r → room (bits (typeAt t target)) ≤ length out
       → (pruneCall t r target out ≡ accepted (bits (typeAt t target))) × (recordBits t (pruned t r target out) ≡ recordBits t r)
-  prune-own w e l =
-      cut-prunes (recordBits t r) w
+  prune-own h g e l =
+      cut-prunes (recordBits t r) h g
       (ap (λ (a : Ty). cut a (typeOf t r) (recordBits t r)) e ∙ cut-same (typeOf t r) (recordBits t r)) l
 
   -- A cut to unit always works, with any output, which stays as it stood.
-  pub prune-unit : Within t r target → typeAt t target ≡ unit → (pruneCall t r target out ≡ accepted 0) × (pruneOut t r target out ≡ out)
+  pub prune-unit : Held t r → Named t target → typeAt t target ≡ unit → (pruneCall t r target out ≡ accepted 0) × (pruneOut t r target out ≡ out)
   unfolding written pack packTo
-  prune-unit w e =
+  prune-unit h g e =
       let none : bits (typeAt t target) ≡ 0 = ap bits e ∙ bits-unit in
       let c : cut (typeAt t target) (typeOf t r) (recordBits t r) ≡ some [] =
-      ap (λ (a : Ty). cut a (typeOf t r) (recordBits t r)) e ∙ cut-unit (typeOf t r) (recordBits t r) (record-length (w .inside)) in
-      let done = cut-prunes [] w c (omega arith) .0 in
-      (done ∙ ap accepted none, out-here (bits (typeAt t target)) done ∙ ap (λ (o : Option (List Bool)). written (cutBits o) out) c)
+      ap (λ (a : Ty). cut a (typeOf t r) (recordBits t r)) e ∙ cut-unit (typeOf t r) (recordBits t r) (own-length t r h) in
+      let a = cut-prunes [] h g c (omega arith) .0 in (
+        a ∙ ap accepted none,
+        found (bits (typeAt t target)) a .output ∙ ap (λ (o : Option (List Bool)). written (cutBits o) out) c,
+      )
 
   -- A record with zero padding stays one.
   pub prune-plain : (n : ℕ) → pruneCall t r target out ≡ accepted n → plain (typeOf t r) (recordBits t r) ≡ recordBits t r
       → plain (typeAt t target) (recordBits t (pruned t r target out)) ≡ recordBits t (pruned t r target out)
   prune-plain n h z = cut-plain (typeAt t target) (typeOf t r) (recordBits t r) (recordBits t (pruned t r target out)) z (prune-cut n h)
 
-  rests : Within t r target → pruneCall t r target out ≡ rest out (cutOf t r target)
-  unfolding rest
-  rests w =
-      let o = cutOf t r target in
-      let hs = handed t (r ∷ []) (target ∷ []) in
-      ap (λ (rs : List Rung). ladder rs (length (cutBits o))) (append-assoc hs (shaped (isCut o)) (roomFor (cutBits o) out))
-      ∙ ladder-pass hs (shaped (isCut o) ++ roomFor (cutBits o) out) (tt {0}) (tt {0}) (length (cutBits o)) (within-passes t r target w)
+  rests : Held t r → Named t target
+      → (rest out (cutOf t r target) ≡ pruneCall t r target out) × (restOut out (cutOf t r target) ≡ pruneOut t r target out)
+  rests h g =
+      handed-on (shaped (isCut (cutOf t r target))) (cutBits (cutOf t r target)) out (handed t (r ∷ []) (target ∷ [])) (passes h g)
 
 -- Two records of one type.
 module _ (t : Table) (r s : Record) (target : ℕ) (alike : typeOf t s ≡ typeOf t r) where
   -- Whether a record can be cut, and to which compact bits, depends on its compact bits alone.
-  pub prune-compact : (out other : List ℕ) (n : ℕ) → pruneCall t r target out ≡ accepted n → Within t s target
+  pub prune-compact : (out other : List ℕ) (n : ℕ) → pruneCall t r target out ≡ accepted n → Held t s
       → room (bits (typeAt t target)) ≤ length other → compact (typeOf t r) (recordBits t r) ≡ compact (typeOf t r) (recordBits t s)
       → (pruneCall t s target other ≡ accepted n)
       × (compact (typeAt t target) (recordBits t (pruned t s target other)) ≡ compact (typeAt t target) (recordBits t (pruned t r target out)))
-  prune-compact out other n h w l e =
-      let v = prune-within t r target out n h in
+  prune-compact out other n h held l e =
       let z =
       compact-cut (typeAt t target) (typeOf t r) (recordBits t r) (recordBits t s) (recordBits t (pruned t r target out))
-      (record-length t r target out (v .inside)) (record-length t s target out (w .inside) ∙ ap bits alike) e (prune-cut t r target out n h) in
-      let c = cut-prunes t s target other (z .0) w (ap (λ (a : Ty). cut (typeAt t target) a (recordBits t s)) alike ∙ z .1) l in
+      (own-length t r (prune-held t r target out n h)) (own-length t s held ∙ ap bits alike) e (prune-cut t r target out n h) in
+      let c =
+      cut-prunes t s target other (z .0) held (prune-named t r target out n h)
+      (ap (λ (a : Ty). cut (typeAt t target) a (recordBits t s)) alike ∙ z .1) l in
       (c .0 ∙ ap accepted (sym (prune-width t r target out n h)), ap (compact (typeAt t target)) (c .1) ∙ z .2)
 
   -- Within the limits a call depends on the record's own bits alone, whatever surrounds them.
-  pub prune-own-bits : (out : List ℕ) → Within t r target → Within t s target → recordBits t s ≡ recordBits t r
+  pub prune-own-bits : (out : List ℕ) → Held t r → Held t s → Named t target → recordBits t s ≡ recordBits t r
       → (pruneCall t s target out ≡ pruneCall t r target out) × (pruneOut t s target out ≡ pruneOut t r target out)
-  prune-own-bits out v w e =
+  prune-own-bits out v w g e =
       let o : cutOf t s target ≡ cutOf t r target = ap₂ (λ (a : Ty) (x : List Bool). cut (typeAt t target) a x) alike e in
-      let a : pruneCall t s target out ≡ pruneCall t r target out =
-      rests t s target out w ∙ ap (rest out) o ∙ sym (rests t r target out v) in
-      (a, ap₂ (λ (x : Answer ℕ) (c : Option (List Bool)). kept x out (written (cutBits c) out)) a o)
+      let a = rests t s target out w g in
+      let b = rests t r target out v g in
+      (sym (a .0) ∙ ap (rest out) o ∙ b .0, sym (a .1) ∙ ap (restOut out) o ∙ b .1)
 
 -- Demand 3. The record r cut to a in `first`, what came of it to b in `second`; straight to b in `straight`, which has room.
 module _ (t : Table) (r : Record) (a b : ℕ) (first second straight : List ℕ) (n m : ℕ)
@@ -242,20 +166,13 @@ module _ (t : Table) (r : Record) (a b : ℕ) (first second straight : List ℕ)
       × (plain (typeOf t r) (recordBits t r) ≡ recordBits t r
       → recordBits t (pruned t r b straight) ≡ recordBits t (pruned t (pruned t r a first) b second))
   prune-prune =
-      let w = prune-within t r a first n one in
-      let v = prune-within t (pruned t r a first) b second m two in
+      let h = prune-held t r a first n one in
       let y = recordBits t (pruned t (pruned t r a first) b second) in
       let z =
-      cut-cut (typeAt t b) (typeAt t a) (typeOf t r) (recordBits t r) (recordBits t (pruned t r a first)) y
-      (record-length t r b straight (w .inside)) (prune-cut t r a first n one) (prune-cut t (pruned t r a first) b second m two) in
-      let c =
-      cut-prunes t r b straight (z .0) (record { sound = w .sound; given = w .given; goal = v .goal; inside = w .inside }) (z .1) roomy in (
+      cut-cut (typeAt t b) (typeAt t a) (typeOf t r) (recordBits t r) (recordBits t (pruned t r a first)) y (own-length t r h)
+      (prune-cut t r a first n one) (prune-cut t (pruned t r a first) b second m two) in
+      let c = cut-prunes t r b straight (z .0) h (prune-named t (pruned t r a first) b second m two) (z .1) roomy in (
         c .0 ∙ ap accepted (sym (prune-width t (pruned t r a first) b second m two)),
         ap (compact (typeAt t b)) (c .1) ∙ z .2,
         λ p. c .1 ∙ z .3 p,
       )
-
--- The contract allows one answer and one output.
-pub prune-settled : (t : Table) (r : Record) (target : ℕ) (out : List ℕ) (x y : Count) (v w : List ℕ) → countOf x ≡ pruneCall t r target out
-    → v ≡ pruneOut t r target out → countOf y ≡ pruneCall t r target out → w ≡ pruneOut t r target out → (x ≡ y) × (v ≡ w)
-prune-settled t r target out x y v w e f g h = (count-settled x y (e ∙ sym g), f ∙ sym h)

@@ -1,7 +1,3 @@
--- The laws that the walks cite, and the laws of the call.
-pub mod CutSteps
-pub mod Sides
-pub mod Walks
-pub mod Writes
-pub mod Answers
+-- What the call knows of its record, and the laws of the call.
 pub mod Calls
+pub mod Lent

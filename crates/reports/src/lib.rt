@@ -2,8 +2,8 @@
 use answers::Count;
 ghost use Prim.Native.Nat.{_≤_};
 ghost use lib.ListN.{length};
-ghost use Rattle.lines.specs.Report.{fileText};
-ghost use Rattle.lines.specs.Buffer.{Printed};
+ghost use Rattle.lines_digits.specs.Report.{fileText};
+ghost use Rattle.lines_digits.specs.Buffer.{Printed};
 
 // Writes the report of a file to the front of a buffer, and answers its length. A report takes at most 96 bytes a node and 32 for its
 // first line, so that the buffer holds any.

@@ -1,10 +1,8 @@
 // Replays lists of recorded answers against the library: of standard input, or of each file that an argument names. Prints a line for each case
 // that differs, then for each call how many of its cases were replayed and how many of them differed, and the sums. The form of a list stands at
 // the head of oracle/src/bin/record.rs.
-mod names;
-
 use libc::STDOUT_FILENO;
-use names::print_name;
+use samples_names::print_name;
 ghost use Prim.Native.Nat.{_≤_};
 
 // One more. No list has so many cases that this would wrap.
@@ -12,9 +10,9 @@ fn one_more(n: u64) -> u64 {
     std::num::wrapping_add_u64(n, 1)
 }
 
-// Counts one more case of a call.
-fn count_case(counts: &mut [u64; 51], call: usize)
-    requires { ⌜ call ≤ 50 ⌝ }
+// Counts one more case of a call. A call's number is a byte of the list, so there are 256 counts, however many calls there are.
+fn count_case(counts: &mut [u64; 256], call: usize)
+    requires { ⌜ call ≤ 255 ⌝ }
 {
     counts[call] = one_more(counts[call]);
 }
@@ -43,10 +41,10 @@ fn print_counts(replayed: u64, word: &[u8], differing: u64) {
     io::write_all(STDOUT_FILENO, b" differ\n");
 }
 
-// A line for each call that the list has cases of, in the order of include/CALLS.md, and for its tables.
-fn print_calls(replayed: &[u64; 51], differing: &[u64; 51]) {
+// A line for each call that the list has cases of, in the order of their numbers, and for its tables.
+fn print_calls(replayed: &[u64; 256], differing: &[u64; 256]) {
     let mut call = 0;
-    while call < 51 {
+    while call < 256 {
         if replayed[call] > 0 {
             print_name(call);
             io::write_all(STDOUT_FILENO, b": ");
@@ -63,8 +61,8 @@ fn replay_list(list: &[u8]) {
     let mut rights = [0u16; 1024];
     let mut groups = [0u8; 19456];
     let mut count = 0;
-    let mut replayed = [0u64; 51];
-    let mut differing = [0u64; 51];
+    let mut replayed = [0u64; 256];
+    let mut differing = [0u64; 256];
     let mut differences = 0;
     let head = lists::number_at(list, 0);
     let cases = head.value;

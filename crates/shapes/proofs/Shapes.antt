@@ -16,7 +16,7 @@ use borrow.Author.Tests.{eq-eqb, ne-eqb}
 use Rattle.meaning.specs.Types.{Ty, unit, sum, prod, same}
 use Rattle.meaning.specs.Tables.{Table, node, tyAt}
 use Rattle.meaning.specs.Words.{word, isWord, segment, buffer, ctx8}
-use Rattle.meaning.proofs.Tests.{and-left, and-right}
+use Rattle.meaning.proofs.Tests.{and-left, and-right, and-no-right}
 use Rattle.nodes.specs.Reading.{Reads}
 use Rattle.nodes.specs.declared.Node.{Node}
 use Rattle.shapes.proofs.Words.{isWord-word, isWord-same}
@@ -137,11 +137,6 @@ module _ (t : Table) {n : ℕ} {r : Node} (h : Reads t n r) where
   read-no-buffer m p f =
       ap (λ (k : ℕ). same (tyAt (t .columns) n) (buffer k)) (one-less m p) ∙ read-no-prod (segment (suc (m - 1))) (buffer (m - 1)) f
 
--- A conjunction whose second test fails.
-pub and-none : (p q : Bool) → q ≡ false → (p && q) ≡ false
-and-none true q e = e
-and-none false q e = refl
-
 module _ (t : Table) {n : ℕ} {r q : Node} (h : Reads t n r) (g : Reads t (r .right) q) where
   pub read-state : r .kind ≡ 2 → q .kind ≡ 2
       → same (tyAt (t .columns) n) ctx8
@@ -158,7 +153,7 @@ module _ (t : Table) {n : ℕ} {r q : Node} (h : Reads t n r) (g : Reads t (r .r
   unfolding ctx8
   read-no-rest e f =
       read-prod t h (buffer 5) (prod (word 6) (word 8)) e
-      ∙ and-none (same (tyAt (t .columns) (r .left)) (buffer 5)) (same (tyAt (t .columns) (r .right)) (prod (word 6) (word 8)))
+      ∙ and-no-right (same (tyAt (t .columns) (r .left)) (buffer 5)) (same (tyAt (t .columns) (r .right)) (prod (word 6) (word 8)))
       (read-no-prod t g (word 6) (word 8) f)
 
 pub read-no-state : (t : Table) {n : ℕ} {r : Node} → Reads t n r → (r .kind ≡ 2 → ⊥) → same (tyAt (t .columns) n) ctx8 ≡ false

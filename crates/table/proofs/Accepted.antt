@@ -28,8 +28,9 @@ use Rattle.meaning.proofs.Ladders.{sound-accepted, accepted-sound}
 use Rattle.facts.specs.Known.{Fillable}
 use Rattle.files.proofs.Whole.{endOf, accepted-found}
 use Rattle.files.proofs.Unique.{file-unique}
-use Rattle.table.proofs.Fillings.{Right, fillable, all-right, reached-columns}
-use Rattle.table.proofs.Readings.{ReadIn, read-in, some-node, fillable-after, groups-after}
+use Rattle.table_room.proofs.Room.{reached-columns}
+use Rattle.table_filling.proofs.Fillings.{Right, fillable, all-right}
+use Rattle.table_reading.proofs.Readings.{ReadIn, read-in, some-node, fillable-after, groups-after}
 
 -- A table from its entries, its groups and its count.
 abbrev pub tableOf : Columns → List ℕ → ℕ → Table

@@ -1,7 +1,2 @@
--- Laws of the calls on tables and types.
-pub mod Asking
-pub mod Types
-pub mod Shaped
-pub mod Fillings
-pub mod Readings
+-- What the calls on whole tables have to do with each other.
 pub mod Accepted

@@ -1,6 +1,6 @@
 -- Equality of records is an equivalence.
 --
---   equal-is                    what it answers of two fine records
+--   equal-is                    what it answers of two held records
 --   equal-means                 what a yes means: the same type and the same bits; and where both are, the answer is yes
 --   equal-reflexive equal-symmetric equal-transitive
 -- Assumes nothing.
@@ -10,13 +10,14 @@ use mathlib.Core.List.{List, [], _∷_}
 use Rattle.meaning.specs.Types.{Ty, same}
 use Rattle.meaning.specs.Tables.{Table}
 use Rattle.meaning.specs.Records.{sameBits}
-use Rattle.meaning.specs.Ladder.{Answer, accepted, ladder, Record, typeOf, recordBits}
+use Rattle.meaning.specs.Ladder.{accepted, ladder, Record, typeOf, recordBits}
 use Rattle.meaning.specs.RecordCalls.{handed, equalCall}
 use Rattle.meaning.proofs.Tests.{and-left, and-right, and-both}
 use Rattle.meaning.proofs.Types.{same-eq, eq-same}
 use Rattle.meaning.proofs.Records.{same-bits, bits-same}
-use Rattle.value.specs.Sides.{alikeAt}
-use Rattle.value.proofs.Fine.{Fine, two-pass, two-fine, swapped}
+use Rattle.checked.specs.Passed.{Held}
+use Rattle.value_comparing.specs.Comparing.{alikeAt}
+use Rattle.value.proofs.Two.{two-pass, two-held, swapped}
 
 -- Two tests that pass together are the same test.
 same-test : (p q : Bool) → (p ≡ true → q ≡ true) → (q ≡ true → p ≡ true) → p ≡ q
@@ -55,16 +56,16 @@ module _ (t : Table) where
       and-both (same (typeOf t a) (typeOf t b)) (sameBits (recordBits t a) (recordBits t b)) (eq-same (typeOf t a) (typeOf t b) (s .types))
       (equal-bits (recordBits t a) (recordBits t b) (s .bits-are))
 
-  pub equal-is : (a b : Record) → Fine t a → Fine t b → equalCall t a b ≡ accepted (alikeAt t a b)
+  pub equal-is : (a b : Record) → Held t a → Held t b → equalCall t a b ≡ accepted (alikeAt t a b)
   equal-is a b f g = two-pass t a b (alikeAt t a b) f g
 
   pub equal-means : (a b : Record) → equalCall t a b ≡ accepted true → Same a b
-  equal-means a b h = alike-same a b (two-fine t a b (alikeAt t a b) true h .2)
+  equal-means a b h = alike-same a b (two-held t a b (alikeAt t a b) true h .2)
 
-  pub same-equal : (a b : Record) → Fine t a → Fine t b → Same a b → equalCall t a b ≡ accepted true
+  pub same-equal : (a b : Record) → Held t a → Held t b → Same a b → equalCall t a b ≡ accepted true
   same-equal a b f g s = equal-is a b f g ∙ ap accepted (same-alike a b s)
 
-  pub equal-reflexive : (a : Record) → Fine t a → equalCall t a a ≡ accepted true
+  pub equal-reflexive : (a : Record) → Held t a → equalCall t a a ≡ accepted true
   equal-reflexive a f = same-equal a a f f (record { types = refl; bits-are = refl })
 
   pub equal-symmetric : (a b : Record) → equalCall t a b ≡ equalCall t b a
@@ -77,5 +78,5 @@ module _ (t : Table) where
   equal-transitive a b c h k =
       let s = equal-means a b h in
       let r = equal-means b c k in
-      same-equal a c (two-fine t a b (alikeAt t a b) true h .0) (two-fine t b c (alikeAt t b c) true k .1)
+      same-equal a c (two-held t a b (alikeAt t a b) true h .0) (two-held t b c (alikeAt t b c) true k .1)
       (record { types = s .types ∙ r .types; bits-are = s .bits-are ∙ r .bits-are })

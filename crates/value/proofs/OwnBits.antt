@@ -7,19 +7,18 @@
 --   left-own right-own some-own product-own     answer and output
 -- Assumes nothing.
 use Prim.Native.Nat.{ℕ, _+_, _*_}
-use mathlib.Core.Path.{_≡_, ap}
-use mathlib.Core.Bool.{Bool, true, false, not, _&&_, _||_}
+use mathlib.Core.Path.{_≡_}
+use mathlib.Core.Bool.{Bool, true, false, _&&_, _||_}
 use mathlib.Core.List.{List, [], _∷_, _++_}
 use lib.Dec.{ltb}
 use lib.ListN.{length}
 use Rattle.meaning.specs.Types.{same, bits, top, isSum, isProd, isUnit, leftSide, rightSide}
 use Rattle.meaning.specs.Tables.{Table}
-use Rattle.meaning.specs.Bits.{written}
 use Rattle.meaning.specs.Records.{tag, sameBits, orderBits}
-use Rattle.meaning.specs.Ladder.{Answer, Rung, rung, ladder, kept, Record, record-of, typeAt, recordBits, named, shaped, makes, made}
+use Rattle.meaning.specs.Ladder.{Answer, Rung, rung, ladder, record-of, typeAt, recordBits, named, shaped, makes, made}
 use Rattle.meaning.specs.RecordCalls.{Spot, asLeftCall, asRightCall, asProductCall, equalCall, compareCall, paddedLenCall, orderThen, orderTypes}
 use Rattle.meaning.specs.RecordCalls.{leftCall, leftOut, rightCall, rightOut, someCall, someOut, productCall, productOut}
-use Rattle.value.specs.Sides.{padding, sideNode, says, wrapped}
+use Rattle.checked.specs.Sides.{padding, sideNode, says, wrapped}
 
 -- Two byte lists of one length agree on the bits of the record at an offset.
 pub record Agree (t : Table) (o n : ℕ) (s u : List ℕ) : Type 0 where

@@ -7,25 +7,26 @@
 -- Assumes nothing.
 use Prim.Native.Nat.{ℕ, zero, suc, _<_, compare, Ordering, Ordering·lt, Ordering·eq, Ordering·gt}
 use Prim.Native.Nat.{compare·zero-zero, compare·zero-suc, compare·suc-zero, compare·suc-suc}
-use mathlib.Core.Path.{_≡_, refl, sym, ap, ap₂, _∙_, subst}
-use mathlib.Core.Bool.{Bool, true, false, true≢false, false≢true}
+use mathlib.Core.Path.{_≡_, refl, sym, ap, ap₂, _∙_}
+use mathlib.Core.Bool.{Bool, true, false, false≢true}
 use mathlib.Core.List.{List, [], _∷_}
 use mathlib.Core.Logic.{_⊎_, inl, inr, ⊎-elim}
 use native.Mathlib.Omega.{arith}
-use lib.Dec.{isLe, isEq, leb, eqb}
+use lib.Dec.{isLe, isEq}
 use lib.ListN.{length}
 use borrow.Author.Tests.{eqb-true, eqb-false, leb-true}
 use Rattle.meaning.specs.Types.{bits}
 use Rattle.meaning.specs.Tables.{Table, classOf}
 use Rattle.meaning.specs.Records.{orderBit, orderBits}
-use Rattle.meaning.specs.Ladder.{Answer, refused, accepted, Rung, rung, ladder, Record, typeOf, recordBits}
+use Rattle.meaning.specs.Ladder.{Answer, refused, accepted, Rung, rung, ladder, Record, recordBits}
 use Rattle.meaning.specs.RecordCalls.{handed, equalCall, orderThen, compareCall}
 use Rattle.meaning.proofs.Trees.{tree-class, class-trees}
-use Rattle.value.specs.Sides.{alikeAt, orderedAt}
-use Rattle.value.proofs.Equality.{Same, equal-means, same-equal}
-use Rattle.value.proofs.Fine.{Fine, fine-held, two-pass, two-fine, swapped}
-use Rattle.value.proofs.Lent.{own-length}
-use Rattle.value.proofs.Orders.{compare-below, compare-above, compare-level}
+use Rattle.checked.specs.Passed.{Held}
+use Rattle.value_comparing.specs.Comparing.{alikeAt, orderedAt}
+use Rattle.value.proofs.Equality.{equal-means, same-equal}
+use Rattle.value.proofs.Two.{two-pass, two-held, swapped}
+use Rattle.checked.proofs.Lent.{own-length}
+use Rattle.value_comparing.proofs.Orders.{compare-below, compare-level}
 
 -- ---- The other way round
 
@@ -160,13 +161,13 @@ module _ (t : Table) where
   abbrev class : Record → ℕ
   class r = classOf (t .columns) (r .node)
 
-  same-length : (a b : Record) → Fine t a → Fine t b → class a ≡ class b → length (recordBits t a) ≡ length (recordBits t b)
+  same-length : (a b : Record) → Held t a → Held t b → class a ≡ class b → length (recordBits t a) ≡ length (recordBits t b)
   same-length a b f g e =
-      own-length t a (fine-held t a f) ∙ ap bits (class-trees (t .columns) (a .node) (b .node) e) ∙ sym (own-length t b (fine-held t b g))
+      own-length t a f ∙ ap bits (class-trees (t .columns) (a .node) (b .node) e) ∙ sym (own-length t b g)
 
   pub compare-equal : (a b : Record) → compareCall t a b ≡ accepted Ordering·eq → equalCall t a b ≡ accepted true
   compare-equal a b h =
-      let k = two-fine t a b (orderedAt t a b) Ordering·eq h in
+      let k = two-held t a b (orderedAt t a b) Ordering·eq h in
       let e = then-equal (class a) (class b) (orderBits (recordBits t a) (recordBits t b)) (k .2) in
       same-equal t a b (k .0) (k .1)
       (record {
@@ -176,7 +177,7 @@ module _ (t : Table) where
 
   pub equal-compare : (a b : Record) → equalCall t a b ≡ accepted true → compareCall t a b ≡ accepted Ordering·eq
   equal-compare a b h =
-      let k = two-fine t a b (alikeAt t a b) true h in
+      let k = two-held t a b (alikeAt t a b) true h in
       let s = equal-means t a b h in
       two-pass t a b (orderedAt t a b) (k .0) (k .1)
       ∙ ap accepted
@@ -189,16 +190,16 @@ module _ (t : Table) where
     pub told : compareCall t a b ≡ accepted order-is
     pub low : isLe order-is ≡ true
 
-  -- Of two fine records, from the order itself.
-  at-most : (a b : Record) → Fine t a → Fine t b → isLe (orderedAt t a b) ≡ true → AtMost a b
+  -- Of two held records, from the order itself.
+  at-most : (a b : Record) → Held t a → Held t b → isLe (orderedAt t a b) ≡ true → AtMost a b
   at-most a b f g h = record { order-is = orderedAt t a b; told = two-pass t a b (orderedAt t a b) f g; low = h }
 
-  -- Both records are fine, and this is their order.
-  known : (a b : Record) → AtMost a b → Fine t a × Fine t b × (isLe (orderedAt t a b) ≡ true)
+  -- Both records are held, and this is their order.
+  known : (a b : Record) → AtMost a b → Held t a × Held t b × (isLe (orderedAt t a b) ≡ true)
   known a b m =
-      let k = two-fine t a b (orderedAt t a b) (m .order-is) (m .told) in (k .0, k .1, ap isLe (k .2) ∙ m .low)
+      let k = two-held t a b (orderedAt t a b) (m .order-is) (m .told) in (k .0, k .1, ap isLe (k .2) ∙ m .low)
 
-  pub at-most-reflexive : (a : Record) → Fine t a → AtMost a a
+  pub at-most-reflexive : (a : Record) → Held t a → AtMost a a
   at-most-reflexive a f =
       at-most a a f f
       (most-level (class a) (class a) (orderBits (recordBits t a) (recordBits t a)) refl (ap isLe (bits-level (recordBits t a))))
@@ -240,6 +241,6 @@ module _ (t : Table) where
   one-most Ordering·eq = inl refl
   one-most Ordering·gt = inr refl
 
-  pub at-most-total : (a b : Record) → Fine t a → Fine t b → AtMost a b ⊎ AtMost b a
+  pub at-most-total : (a b : Record) → Held t a → Held t b → AtMost a b ⊎ AtMost b a
   at-most-total a b f g =
       ⊎-elim (λ h. inl (at-most a b f g h)) (λ h. inr (at-most b a g f (ap isLe (ordered-turned t a b) ∙ h))) (one-most (orderedAt t a b))

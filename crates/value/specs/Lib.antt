@@ -1,3 +1,2 @@
 -- What the contracts of `value` cite beside the definitions of `meaning`.
-pub mod Held
 pub mod Sides

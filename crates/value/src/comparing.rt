@@ -1,16 +1,15 @@
-// Equality and order of records, and how wide a record is. Equality and order read the records' own bits alone, padding too.
+// Equality and order of records. They read the records' own bits alone, padding too.
 // Assumes nothing of its input. Refuses with 1 to 5.
-use crate::reading::alike;
-use crate::reading::ordered;
-use answers::Count;
 use answers::Done;
 use answers::Flag;
 use answers::OrderAnswer;
+use value_comparing::alike;
+use value_comparing::ordered;
 ghost use mathlib.Core.Path.{_≡_};
 ghost use Rattle.meaning.specs.Tables.{table};
 ghost use Rattle.meaning.specs.Ladder.{record-of};
 ghost use Rattle.meaning.specs.RecordCalls as calls;
-ghost use Rattle.answers.specs.Verdicts.{flagOf, orderOf, countOf};
+ghost use Rattle.answers.specs.Verdicts.{flagOf, orderOf};
 
 // Two records have the same type and the same bits.
 pub fn equal(
@@ -28,7 +27,7 @@ pub fn equal(
 ) -> Flag
     ensures { λ r. ⌜ flagOf r ≡ calls.equalCall (table (now (kinds .entry)) (now (lefts .entry)) (now (rights .entry)) (now (groups .entry)) count) (record-of (now («a_bytes» .entry)) «a_offset» «a_node») (record-of (now («b_bytes» .entry)) «b_offset» «b_node») ⌝ }
 {
-    let judged = gate::two(
+    let judged = checked_rungs::two(
         kinds,
         lefts,
         rights,
@@ -75,7 +74,7 @@ pub fn compare(
 ) -> OrderAnswer
     ensures { λ r. ⌜ orderOf r ≡ calls.compareCall (table (now (kinds .entry)) (now (lefts .entry)) (now (rights .entry)) (now (groups .entry)) count) (record-of (now («a_bytes» .entry)) «a_offset» «a_node») (record-of (now («b_bytes» .entry)) «b_offset» «b_node») ⌝ }
 {
-    let judged = gate::two(
+    let judged = checked_rungs::two(
         kinds,
         lefts,
         rights,
@@ -104,25 +103,4 @@ pub fn compare(
         b_offset,
         b_node,
     ))
-}
-
-// How many bits a record takes: the width of its type.
-pub fn padded_len(
-    kinds: &[u8],
-    lefts: &[u16],
-    rights: &[u16],
-    groups: &[u8],
-    count: usize,
-    bytes: &[u8],
-    offset: usize,
-    node: usize,
-) -> Count
-    ensures { λ r. ⌜ countOf r ≡ calls.paddedLenCall (table (now (kinds .entry)) (now (lefts .entry)) (now (rights .entry)) (now (groups .entry)) count) (record-of (now (bytes .entry)) offset node) ⌝ }
-{
-    let judged = gate::record(kinds, lefts, rights, groups, count, bytes, offset, node);
-    if let Done::Refused(r) = judged {
-        return Count::Refused(r);
-    }
-    let whole = nodes::node_at(kinds, lefts, rights, groups, count, node);
-    Count::Is(whole.width as usize)
 }

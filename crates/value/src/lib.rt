@@ -4,22 +4,19 @@
 // order of their numbers, then acts through one inner function that relies on what was checked. A refusal changes no byte.
 mod comparing;
 mod constructors;
-mod making;
-mod options;
-mod reading;
+mod lengths;
 mod views;
-mod writers;
 
 pub use comparing::compare;
 pub use comparing::equal;
-pub use comparing::padded_len;
 pub use constructors::left;
+pub use constructors::none;
 pub use constructors::product;
 pub use constructors::right;
+pub use constructors::some;
 pub use constructors::unit;
 pub use constructors::zero;
-pub use options::none;
-pub use options::some;
+pub use lengths::padded_len;
 pub use views::as_left;
 pub use views::as_product;
 pub use views::as_right;

@@ -1,10 +1,10 @@
 // Views: the payload of a sum, the parts of a product. A view keeps the caller's bytes and moves offset and node only.
 // Assumes nothing of its input. Refuses with 1 to 5, and with 7 for another kind or the other tag.
-use crate::reading::parts;
-use crate::reading::payload;
 use answers::Done;
 use answers::SpotAnswer;
 use answers::SpotsAnswer;
+use value_views::parts;
+use value_views::payload;
 ghost use mathlib.Core.Path.{_≡_};
 ghost use Rattle.meaning.specs.Tables.{table};
 ghost use Rattle.meaning.specs.Ladder.{record-of};
@@ -24,7 +24,7 @@ pub fn as_left(
 ) -> SpotAnswer
     ensures { λ r. ⌜ spotOf r ≡ asLeftCall (table (now (kinds .entry)) (now (lefts .entry)) (now (rights .entry)) (now (groups .entry)) count) (record-of (now (bytes .entry)) offset node) ⌝ }
 {
-    let judged = gate::record(kinds, lefts, rights, groups, count, bytes, offset, node);
+    let judged = checked_rungs::record(kinds, lefts, rights, groups, count, bytes, offset, node);
     if let Done::Refused(r) = judged {
         return SpotAnswer::Refused(r);
     }
@@ -54,7 +54,7 @@ pub fn as_right(
 ) -> SpotAnswer
     ensures { λ r. ⌜ spotOf r ≡ asRightCall (table (now (kinds .entry)) (now (lefts .entry)) (now (rights .entry)) (now (groups .entry)) count) (record-of (now (bytes .entry)) offset node) ⌝ }
 {
-    let judged = gate::record(kinds, lefts, rights, groups, count, bytes, offset, node);
+    let judged = checked_rungs::record(kinds, lefts, rights, groups, count, bytes, offset, node);
     if let Done::Refused(r) = judged {
         return SpotAnswer::Refused(r);
     }
@@ -84,7 +84,7 @@ pub fn as_product(
 ) -> SpotsAnswer
     ensures { λ r. ⌜ spotsOf r ≡ asProductCall (table (now (kinds .entry)) (now (lefts .entry)) (now (rights .entry)) (now (groups .entry)) count) (record-of (now (bytes .entry)) offset node) ⌝ }
 {
-    let judged = gate::record(kinds, lefts, rights, groups, count, bytes, offset, node);
+    let judged = checked_rungs::record(kinds, lefts, rights, groups, count, bytes, offset, node);
     if let Done::Refused(r) = judged {
         return SpotsAnswer::Refused(r);
     }

@@ -22,7 +22,7 @@ use denote.Struct.Rest.{own-open, own-shut}
 use Rattle.view.specs.declared.View.{View}
 use Rattle.view.proofs.View as T
 use Rattle.view.proofs.View.Laws as T′
-use Rattle.view.proofs.Passed.{Told}
+use Rattle.view.proofs.Passed.{Spelled}
 
 abbrev pub fieldTypes : NamedLft → List RattleType
 fieldTypes α = ShrSlice (α .mir) (α .lft) u8 ∷ usize ∷ usize ∷ []
@@ -34,7 +34,7 @@ abbrev pub fieldVals : (α : NamedLft) → View → Valss (fieldTypes α)
 fieldVals α d = (sliceVal (ptr (d .bytes)) (length (now (d .bytes))) ∷ [], (vint w64 (d .offset) ∷ [], (vint w64 (d .node) ∷ [], tt)))
 
 module _ {M : Type 1} (𝓤 : URA M) (H : Heap 𝓤) (A : Atoms 𝓤) (W : Given 𝓤 H A) (α : NamedLft) where
-  abbrev pub view-told : Told 𝓤 H A (T.the-row α)
+  abbrev pub view-told : Spelled 𝓤 H A (T.the-row α)
   view-told = record {
     vals = LL.vals (T.the-type α) (T′.the-laws α);
     tells = LL.tells (T.the-type α) (T′.the-laws α);

@@ -27,7 +27,7 @@ use denote.Ref.{NamedLft, now}
 use denote.Signature.{Slot, plain, typesAt, namedLft}
 use denote.Slice.{sliceTy, ShrSlice, slice-vals}
 use Rattle.meaning.specs.Tables.{Table, table}
-use Rattle.view.proofs.Passed.{Tolds, slice-told, size-told}
+use Rattle.view.proofs.Passed.{AllSpelled, slice-told, size-told}
 
 abbrev pub lfts : ℕ → ℕ
 lfts n = suc (suc (suc (suc n)))
@@ -69,7 +69,7 @@ module _ (n : ℕ) (κs : Lfts (lfts n)) where
   abbrev pub Columns : Type 0
   Columns = Denots columnTypes
 
-  abbrev pub columns-told : {M : Type 1} (𝓤 : URA M) (H : Heap 𝓤) (A : Atoms 𝓤) → Given 𝓤 H A → Tolds 𝓤 H A columnTypes
+  abbrev pub columns-told : {M : Type 1} (𝓤 : URA M) (H : Heap 𝓤) (A : Atoms 𝓤) → Given 𝓤 H A → AllSpelled 𝓤 H A columnTypes
   columns-told 𝓤 H A W = (
     slice-told 𝓤 H A W (named 0) (κs .0) u8,
     (

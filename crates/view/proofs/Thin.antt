@@ -28,7 +28,7 @@ use denote.Triple.Clauses.{Clauses, Ended, Lasts, AtExit, atExit, lasts, ensured
 use denote.Triple.Entry.{Args, Vals, Res, alive, onEntry}
 use denote.Triple.Spec.{Back, Meets, tripleOf}
 use denote.Triple.Statement.{Contract}
-use Rattle.view.proofs.Passed.{Tolds, spelling, telling, lawfuls}
+use Rattle.view.proofs.Passed.{AllSpelled, spelling, telling, lawfuls}
 
 abbrev Units : ℕ → Type 0
 Units zero = Unit {0}
@@ -56,11 +56,11 @@ module _ {M : Type 1} (𝓤 : URA M) (H : Heap 𝓤) (A : Atoms 𝓤) where
     Asked = tripleOf 𝓤 H A (T .signature) (closing 𝓤 H A T c)
 
     -- the machine values of the parameters, at the values a
-    abbrev pub given : (told : (κs : Lfts (T .signature .lifetimes)) → Tolds 𝓤 H A (typesAt (T .signature .params) κs)) (κs : Lfts (T .signature .lifetimes))
+    abbrev pub given : (told : (κs : Lfts (T .signature .lifetimes)) → AllSpelled 𝓤 H A (typesAt (T .signature .params) κs)) (κs : Lfts (T .signature .lifetimes))
         → Args (T .signature) κs → Vals (T .signature) κs
     given told κs a = valss (typesAt (T .signature .params) κs) (spelling 𝓤 H A (typesAt (T .signature .params) κs) (told κs)) a
 
-    pub begins : (run : Fun 𝓤) (told : (κs : Lfts (T .signature .lifetimes)) → Tolds 𝓤 H A (typesAt (T .signature .params) κs))
+    pub begins : (run : Fun 𝓤) (told : (κs : Lfts (T .signature .lifetimes)) → AllSpelled 𝓤 H A (typesAt (T .signature .params) κs))
         → ((κs : Lfts (T .signature .lifetimes)) (qs : Shares (T .signature .lifetimes))
         (bounds : AllOutlive (T .signature .lifetimes) (T .signature .outlives) κs) (a : Args (T .signature) κs) (g : c κs a .ghost)
         → Typed (mirs (typesAt (T .signature .params) κs)) (flat (typesAt (T .signature .params) κs) (given told κs a))

@@ -94,7 +94,7 @@ pub fn is_unit<'a>(
 ) -> Flag
     ensures { λ r. ⌜ flagOf r ≡ isUnitCall (table (now (kinds .entry)) (now (lefts .entry)) (now (rights .entry)) (now (groups .entry)) count) (v .entry .node) ⌝ }
 {
-    table::is_unit(kinds, lefts, rights, groups, count, v.node)
+    types::is_unit(kinds, lefts, rights, groups, count, v.node)
 }
 
 // The payload of a left record.

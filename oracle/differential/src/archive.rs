@@ -1,6 +1,6 @@
 //! The archive asked through its C interface.
 
-use oracle::library::{Answer, Call, Library, Record, Request};
+use oracle::library::{Answer, Call, Library, OwnedColumns, Record, Request};
 use quelomavunt::raw;
 
 // Both sides lay groups of the same size.
@@ -11,6 +11,15 @@ pub struct Archive;
 
 fn record<'a>(record: &Record<'a>) -> raw::RawRecord<'a> {
     raw::RawRecord { bytes: record.bytes, offset: record.offset, node: record.node }
+}
+
+fn lent(columns: &mut OwnedColumns) -> raw::ColumnsMut<'_> {
+    raw::ColumnsMut {
+        kinds: &mut columns.kinds,
+        lefts: &mut columns.lefts,
+        rights: &mut columns.rights,
+        groups: &mut columns.groups,
+    }
 }
 
 impl Library for Archive {
@@ -34,15 +43,8 @@ impl Library for Archive {
         let (out, position) = (&mut answer.out[..], &mut answer.position);
         let (bytes, length) = (q.stream.bytes, q.stream.length);
         answer.code = match q.call {
-            Call::ReadTable => {
-                let columns = raw::ColumnsMut {
-                    kinds: &mut columns.kinds,
-                    lefts: &mut columns.lefts,
-                    rights: &mut columns.rights,
-                    groups: &mut columns.groups,
-                };
-                raw::read_table(q.data, columns, one)
-            }
+            // calls.list begins: tools/calls writes what stands up to its end.
+            Call::ReadTable => raw::read_table(q.data, lent(columns), one),
             Call::FillFacts => raw::fill_facts(t.kinds, t.lefts, t.rights, t.count, &mut columns.groups),
             Call::CheckTable => raw::check_table(t),
             Call::FactsOf => raw::facts_of(t, q.node, many),
@@ -92,6 +94,7 @@ impl Library for Archive {
             Call::ToCompactBits => raw::to_compact_bits(t, a, one, out),
             Call::ToPaddedBits => raw::to_padded_bits(t, a, one, out),
             Call::Prune => raw::prune(t, a, q.node, one, out),
+            // calls.list ends
         };
     }
 }

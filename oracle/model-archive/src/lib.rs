@@ -35,7 +35,7 @@ fn spoil(answer: &mut Answer) {
     }
 }
 
-/// Declares exports, with the parameter words of `rust/src/raw.rs`.
+/// Declares exports, with the kinds of include/calls.list and the members of a request that they go to.
 macro_rules! exports {
     ($(fn $symbol:ident = $call:ident ($($given:tt)*);)*) => {
         $(exports!(@ $symbol $call q a [] [] [] $($given)*);)*
@@ -130,6 +130,7 @@ macro_rules! exports {
 }
 
 exports! {
+    // calls.list begins: tools/calls writes what stands up to its end.
     fn qv_read_table = ReadTable(bytes data, columns, value);
     fn qv_fill_facts = FillFacts(entries, groups);
     fn qv_check_table = CheckTable(table);
@@ -180,4 +181,5 @@ exports! {
     fn qv_to_compact_bits = ToCompactBits(table, record a, value, out);
     fn qv_to_padded_bits = ToPaddedBits(table, record a, value, out);
     fn qv_prune = Prune(table, record a, number node, value, out);
+    // calls.list ends
 }

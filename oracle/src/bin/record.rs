@@ -15,7 +15,7 @@
 //!
 //! * 255: a table. A run follows: a sound table file. The cases after it are about this table, read by
 //!   `read_table`. It counts as a case.
-//! * else the call: its place, from 0, in the list of include/CALLS.md. Then, for every call alike, whether it
+//! * else the call: its number in include/calls.list. Then, for every call alike, whether it
 //!   looks at them or not:
 //!
 //!   | what | form |
@@ -531,7 +531,7 @@ fn check(file: &str) -> Result<(), String> {
             table = read_table(&model, rest.run()?)?;
             continue;
         }
-        let call = *Call::ALL.get(usize::from(first)).ok_or(format!("case {case}: no call {first}"))?;
+        let call = Call::of_number(usize::from(first)).ok_or(format!("case {case}: no call {first}"))?;
         check_case(&model, call, &table, &mut rest).map_err(|why| format!("case {case}, {}: {why}", call.name()))?;
     }
     if !rest.0.is_empty() {

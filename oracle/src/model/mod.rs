@@ -8,7 +8,8 @@
 //! * `records`: what a record of a type is: views, both codecs, the cut
 //! * `words`: words, buffers and the hash state, as types and as records
 //! * `ladder`: refusals, and the tests that give them, one a number
-//! * `calls`: every public call: its tests in the order of the numbers, then what it does
+//! * `calls`: every public call, a file for each part of include/calls.list: its tests in the order of the numbers,
+//!   then what it does
 //!
 //! A record is a `Vec<bool>` of the type's width. Bytes and offsets enter in `calls` only, through `bits`.
 

@@ -1,5 +1,5 @@
 //! What the tests on the raw layer share: a table with a type of every sort, a world of everything that a call can be
-//! handed, and a list of the calls with what each looks at.
+//! handed, and all calls with what each looks at. A call that does not accept a new world has a line in `make_good`.
 
 #![allow(dead_code)]
 
@@ -130,12 +130,10 @@ impl World {
     }
 }
 
-/// What a call looks at, and which refusals it has.
+/// What a call looks at.
 pub struct Call {
     pub name: &'static str,
     pub run: fn(&mut World) -> u64,
-    /// A world that it accepts.
-    pub good: fn(&mut World),
     /// The table with facts.
     pub table: bool,
     /// The records: none, `a`, or `a` and `b`.
@@ -165,403 +163,199 @@ fn b(w: &World) -> RawRecord<'_> {
     RawRecord { bytes: &w.b.0, offset: w.b.1, node: w.b.2 }
 }
 
-/// Runs a raw call on a copy of the world's inputs and the world's own outputs.
-macro_rules! on {
-    ($w:ident, |$t:ident, $i:ident, $o:ident| $call:expr) => {
-        |$o: &mut World| {
-            let inputs = $o.clone();
-            let $i = &inputs;
-            let $t = &$i.table.columns();
-            $call
-        }
-    };
+fn lent(t: &mut Zoo) -> ColumnsMut<'_> {
+    ColumnsMut { kinds: &mut t.kinds, lefts: &mut t.lefts, rights: &mut t.rights, groups: &mut t.groups }
 }
-
-const QUESTION: Call = Call {
-    name: "",
-    run: |_| 0,
-    good: |_| {},
-    table: true,
-    records: 0,
-    stream: false,
-    names: Names::Type,
-    values: 0,
-    out: None,
-};
-const VIEW: Call = Call { records: 1, names: Names::Nothing, ..QUESTION };
-const MAKER: Call = Call { names: Names::RecordType, out: Some(1), ..QUESTION };
-const READER: Call = Call { stream: true, ..MAKER };
 
 fn word(bytes: usize, w: &mut World) {
     w.data = vec![0xC3; bytes];
     w.node = BYTE + bytes.ilog2() as u64;
 }
 
-/// Every call.
-pub fn calls() -> Vec<Call> {
-    vec![
-        Call {
-            name: "read_table",
-            run: |w| {
-                let file = w.data.clone();
-                let t = &mut w.table;
-                let columns = ColumnsMut {
-                    kinds: &mut t.kinds,
-                    lefts: &mut t.lefts,
-                    rights: &mut t.rights,
-                    groups: &mut t.groups,
-                };
-                raw::read_table(&file, columns, &mut w.value)
-            },
-            good: |w| w.data = quelomavunt::samples::TABLE_S.to_vec(),
-            table: false,
-            names: Names::Nothing,
-            ..QUESTION
-        },
-        Call {
-            name: "fill_facts",
-            run: |w| {
-                let t = &mut w.table;
-                raw::fill_facts(&t.kinds, &t.lefts, &t.rights, t.count, &mut t.groups)
-            },
-            table: false,
-            names: Names::Nothing,
-            ..QUESTION
-        },
-        Call {
-            name: "check_table",
-            run: on!(w, |t, i, o| {
-                let _ = (i, o);
-                raw::check_table(t)
-            }),
-            names: Names::Nothing,
-            ..QUESTION
-        },
-        Call {
-            name: "facts_of",
-            run: on!(w, |t, i, o| raw::facts_of(t, i.node, &mut o.values)),
-            values: 7,
-            ..QUESTION
-        },
-        Call {
-            name: "same_type",
-            run: on!(w, |t, i, o| raw::same_type(t, i.node, i.other, &mut o.value)),
-            names: Names::TwoTypes,
-            ..QUESTION
-        },
-        Call { name: "is_unit", run: on!(w, |t, i, o| raw::is_unit(t, i.node, &mut o.value)), ..QUESTION },
-        Call { name: "is_empty", run: on!(w, |t, i, o| raw::is_empty(t, i.node, &mut o.value)), ..QUESTION },
-        Call {
-            name: "type_as_sum",
-            run: on!(w, |t, i, o| raw::type_as_sum(t, i.node, &mut o.values)),
-            good: |w| w.node = SUM,
-            values: 2,
-            ..QUESTION
-        },
-        Call {
-            name: "type_as_product",
-            run: on!(w, |t, i, o| raw::type_as_product(t, i.node, &mut o.values)),
-            good: |w| w.node = PAIR,
-            values: 2,
-            ..QUESTION
-        },
-        Call {
-            name: "pad_left",
-            run: on!(w, |t, i, o| raw::pad_left(t, i.node, i.other, &mut o.value)),
-            names: Names::TwoTypes,
-            ..QUESTION
-        },
-        Call {
-            name: "pad_right",
-            run: on!(w, |t, i, o| raw::pad_right(t, i.node, i.other, &mut o.value)),
-            names: Names::TwoTypes,
-            ..QUESTION
-        },
-        Call {
-            name: "as_word",
-            run: on!(w, |t, i, o| raw::as_word(t, i.node, &mut o.value)),
-            good: |w| w.node = BYTE,
-            ..QUESTION
-        },
-        Call {
-            name: "word_width",
-            run: |w| raw::word_width(w.n, &mut w.value),
-            table: false,
-            names: Names::Nothing,
-            ..QUESTION
-        },
-        Call {
-            name: "buffer_width",
-            run: |w| raw::buffer_width(w.n, &mut w.value),
-            table: false,
-            names: Names::Nothing,
-            ..QUESTION
-        },
-        Call { name: "is_buffer8", run: on!(w, |t, i, o| raw::is_buffer8(t, i.node, i.n, &mut o.value)), ..QUESTION },
-        Call { name: "is_ctx8", run: on!(w, |t, i, o| raw::is_ctx8(t, i.node, &mut o.value)), ..QUESTION },
-        Call {
-            name: "as_left",
-            run: on!(w, |t, i, o| raw::as_left(t, &a(i), &mut o.values)),
-            good: |w| w.a = (vec![0b0001_0000], 1, SUM),
-            values: 2,
-            ..VIEW
-        },
-        Call {
-            name: "as_right",
-            run: on!(w, |t, i, o| raw::as_right(t, &a(i), &mut o.values)),
-            good: |w| w.a = (vec![0b0100_0000], 1, SUM),
-            values: 2,
-            ..VIEW
-        },
-        Call {
-            name: "as_product",
-            run: on!(w, |t, i, o| raw::as_product(t, &a(i), &mut o.values)),
-            good: |w| w.a.2 = PAIR,
-            values: 4,
-            ..VIEW
-        },
-        Call { name: "equal", run: on!(w, |t, i, o| raw::equal(t, &a(i), &b(i), &mut o.value)), records: 2, ..VIEW },
-        Call {
-            name: "compare",
-            run: on!(w, |t, i, o| raw::compare(t, &a(i), &b(i), &mut o.value)),
-            records: 2,
-            ..VIEW
-        },
-        Call {
-            name: "compact_len",
-            run: on!(w, |t, i, o| raw::compact_len(t, &a(i), &mut o.value)),
-            good: |w| w.a.2 = PAIR,
-            ..VIEW
-        },
-        Call {
-            name: "padded_len",
-            run: on!(w, |t, i, o| raw::padded_len(t, &a(i), &mut o.value)),
-            good: |w| w.a.2 = PAIR,
-            ..VIEW
-        },
-        Call {
-            name: "unit",
-            run: on!(w, |t, i, o| raw::unit(t, i.node, &mut o.value, &mut o.out)),
-            out: Some(0),
-            ..MAKER
-        },
-        Call {
-            name: "left",
-            run: on!(w, |t, i, o| raw::left(t, &a(i), i.node, &mut o.value, &mut o.out)),
-            good: |w| w.node = SUM,
-            records: 1,
-            ..MAKER
-        },
-        Call {
-            name: "right",
-            run: on!(w, |t, i, o| raw::right(t, &a(i), i.node, &mut o.value, &mut o.out)),
-            good: |w| {
-                w.node = SUM;
-                w.a.2 = BIT + 1
-            },
-            records: 1,
-            ..MAKER
-        },
-        Call {
-            name: "product",
-            run: on!(w, |t, i, o| raw::product(t, &a(i), &b(i), i.node, &mut o.value, &mut o.out)),
-            good: |w| {
-                w.node = PAIR;
-                w.a.2 = SUM
-            },
-            records: 2,
-            ..MAKER
-        },
-        Call {
-            name: "none",
-            run: on!(w, |t, i, o| raw::none(t, i.node, &mut o.value, &mut o.out)),
-            good: |w| w.node = BUFFER,
-            out: Some(2),
-            ..MAKER
-        },
-        Call {
-            name: "some",
-            run: on!(w, |t, i, o| raw::some(t, &a(i), i.node, &mut o.value, &mut o.out)),
-            good: |w| {
-                w.node = BUFFER;
-                w.a.2 = BYTE
-            },
-            records: 1,
-            out: Some(2),
-            ..MAKER
-        },
-        Call {
-            name: "zero",
-            run: on!(w, |t, i, o| raw::zero(t, i.node, &mut o.value, &mut o.out)),
-            good: |w| w.node = PAIR,
-            ..MAKER
-        },
-        Call {
-            name: "u1",
-            run: on!(w, |t, i, o| raw::u1(t, i.n, i.node, &mut o.value, &mut o.out)),
-            good: |w| w.node = BIT,
-            ..MAKER
-        },
-        Call {
-            name: "u2",
-            run: on!(w, |t, i, o| raw::u2(t, i.n, i.node, &mut o.value, &mut o.out)),
-            good: |w| w.node = BIT + 1,
-            ..MAKER
-        },
-        Call {
-            name: "u4",
-            run: on!(w, |t, i, o| raw::u4(t, i.n, i.node, &mut o.value, &mut o.out)),
-            good: |w| w.node = BIT + 2,
-            ..MAKER
-        },
-        Call {
-            name: "u8",
-            run: on!(w, |t, i, o| raw::u8(t, &i.data, i.node, &mut o.value, &mut o.out)),
-            good: |w| word(1, w),
-            out: Some(1),
-            ..MAKER
-        },
-        Call {
-            name: "u16",
-            run: on!(w, |t, i, o| raw::u16(t, &i.data, i.node, &mut o.value, &mut o.out)),
-            good: |w| word(2, w),
-            out: Some(2),
-            ..MAKER
-        },
-        Call {
-            name: "u32",
-            run: on!(w, |t, i, o| raw::u32(t, &i.data, i.node, &mut o.value, &mut o.out)),
-            good: |w| word(4, w),
-            out: Some(4),
-            ..MAKER
-        },
-        Call {
-            name: "u64",
-            run: on!(w, |t, i, o| raw::u64(t, &i.data, i.node, &mut o.value, &mut o.out)),
-            good: |w| word(8, w),
-            out: Some(8),
-            ..MAKER
-        },
-        Call {
-            name: "u128",
-            run: on!(w, |t, i, o| raw::u128(t, &i.data, i.node, &mut o.value, &mut o.out)),
-            good: |w| word(16, w),
-            out: Some(16),
-            ..MAKER
-        },
-        Call {
-            name: "u256",
-            run: on!(w, |t, i, o| raw::u256(t, &i.data, i.node, &mut o.value, &mut o.out)),
-            good: |w| word(32, w),
-            out: Some(32),
-            ..MAKER
-        },
-        Call {
-            name: "u512",
-            run: on!(w, |t, i, o| raw::u512(t, &i.data, i.node, &mut o.value, &mut o.out)),
-            good: |w| word(64, w),
-            out: Some(64),
-            ..MAKER
-        },
-        Call {
-            name: "from_byte_array",
-            run: on!(w, |t, i, o| raw::from_byte_array(t, &i.data, i.node, &mut o.value, &mut o.out)),
-            good: |w| word(16, w),
-            out: Some(16),
-            ..MAKER
-        },
-        Call {
-            name: "word_product",
-            run: on!(w, |t, i, o| raw::word_product(t, &a(i), &b(i), i.node, &mut o.value, &mut o.out)),
-            good: |w| w.node = BIT + 1,
-            records: 2,
-            ..MAKER
-        },
-        Call {
-            name: "word_from_bits",
-            run: |w| {
-                let i = w.clone();
-                raw::word_from_bits(&i.table.columns(), &i.stream, i.length, &mut w.position, i.n, i.node, &mut w.out)
-            },
-            good: |w| {
-                w.n = 3;
-                w.node = BYTE
-            },
-            ..READER
-        },
-        Call {
-            name: "buffer8_two_n_plus_one",
-            run: on!(w, |t, i, o| raw::buffer8_two_n_plus_one(t, i.n, &i.data, i.node, &mut o.value, &mut o.out)),
-            good: |w| {
-                w.node = BUFFER;
-                w.data = vec![0xA5]
-            },
-            out: Some(2),
-            ..MAKER
-        },
-        Call {
-            name: "ctx8",
-            run: on!(w, |t, i, o| raw::ctx8(t, &i.data, i.n, &i.buffer, i.node, &mut o.value, &mut o.out)),
-            good: |w| {
-                w.node = STATE;
-                w.data = vec![7; 32];
-                w.buffer = vec![9; 63]
-            },
-            out: Some(104),
-            ..MAKER
-        },
-        Call {
-            name: "from_compact_bits",
-            run: |w| {
-                let i = w.clone();
-                raw::from_compact_bits(&i.table.columns(), &i.stream, i.length, &mut w.position, i.node, &mut w.out)
-            },
-            good: |w| w.node = PAIR,
-            ..READER
-        },
-        Call {
-            name: "from_padded_bits",
-            run: |w| {
-                let i = w.clone();
-                raw::from_padded_bits(&i.table.columns(), &i.stream, i.length, &mut w.position, i.node, &mut w.out)
-            },
-            good: |w| w.node = PAIR,
-            ..READER
-        },
-        Call {
-            name: "to_compact_bits",
-            run: on!(w, |t, i, o| raw::to_compact_bits(t, &a(i), &mut o.value, &mut o.out)),
-            good: |w| w.a.2 = PAIR,
-            names: Names::Nothing,
-            records: 1,
-            ..MAKER
-        },
-        Call {
-            name: "to_padded_bits",
-            run: on!(w, |t, i, o| raw::to_padded_bits(t, &a(i), &mut o.value, &mut o.out)),
-            good: |w| w.a.2 = PAIR,
-            names: Names::Nothing,
-            records: 1,
-            ..MAKER
-        },
-        Call {
-            name: "prune",
-            run: on!(w, |t, i, o| raw::prune(t, &a(i), i.node, &mut o.value, &mut o.out)),
-            good: |w| {
-                w.a.2 = PAIR;
-                w.node = PAIR
-            },
-            records: 1,
-            ..MAKER
-        },
-    ]
+/// Makes a new world one that the call accepts.
+fn make_good(call: &str, w: &mut World) {
+    match call {
+        "read_table" => w.data = quelomavunt::samples::TABLE_S.to_vec(),
+        "type_as_sum" | "left" => w.node = SUM,
+        "type_as_product" | "zero" | "from_compact_bits" | "from_padded_bits" => w.node = PAIR,
+        "as_word" => w.node = BYTE,
+        "as_left" => w.a = (vec![0b0001_0000], 1, SUM),
+        "as_right" => w.a = (vec![0b0100_0000], 1, SUM),
+        "as_product" | "compact_len" | "padded_len" | "to_compact_bits" | "to_padded_bits" => w.a.2 = PAIR,
+        "right" => (w.node, w.a.2) = (SUM, BIT + 1),
+        "product" => (w.node, w.a.2) = (PAIR, SUM),
+        "none" => w.node = BUFFER,
+        "some" => (w.node, w.a.2) = (BUFFER, BYTE),
+        "u1" => w.node = BIT,
+        "u2" | "word_product" => w.node = BIT + 1,
+        "u4" => w.node = BIT + 2,
+        "u8" => word(1, w),
+        "u16" => word(2, w),
+        "u32" => word(4, w),
+        "u64" => word(8, w),
+        "u128" | "from_byte_array" => word(16, w),
+        "u256" => word(32, w),
+        "u512" => word(64, w),
+        "word_from_bits" => (w.n, w.node) = (3, BYTE),
+        "buffer8_two_n_plus_one" => (w.node, w.data) = (BUFFER, vec![0xA5]),
+        "ctx8" => (w.node, w.data, w.buffer) = (STATE, vec![7; 32], vec![9; 63]),
+        "prune" => (w.a.2, w.node) = (PAIR, PAIR),
+        _ => {}
+    }
+}
+
+/// How many bytes of `out` a call needs in its good world.
+fn needed(call: &str) -> usize {
+    match call {
+        "unit" => 0,
+        "none" | "some" | "u16" | "buffer8_two_n_plus_one" => 2,
+        "u32" => 4,
+        "u64" => 8,
+        "u128" | "from_byte_array" => 16,
+        "u256" => 32,
+        "u512" => 64,
+        "ctx8" => 104,
+        _ => 1,
+    }
+}
+
+/// Every call, with what it looks at. A call runs on a copy of the world's inputs `i`, with its table `t`, and the
+/// world's own outputs `o`.
+macro_rules! every_call {
+    ($($name:ident: names $names:ident, records $records:literal, values $values:literal,
+       table $table:literal, stream $stream:literal, out $out:literal, |$t:ident, $i:ident, $o:ident| $call:expr;)*) => {
+        /// Every call.
+        pub fn calls() -> Vec<Call> {
+            vec![$(Call {
+                name: stringify!($name),
+                run: |$o| {
+                    let inputs = $o.clone();
+                    let $i = &inputs;
+                    let $t = &$i.table.columns();
+                    let _ = ($t, $i);
+                    $call
+                },
+                table: $table,
+                records: $records,
+                stream: $stream,
+                names: Names::$names,
+                values: $values,
+                out: $out.then(|| needed(stringify!($name))),
+            },)*]
+        }
+    };
+}
+
+every_call! {
+    // calls.list begins: tools/calls writes what stands up to its end.
+    read_table: names Nothing, records 0, values 0, table false, stream false, out false,
+        |t, i, o| raw::read_table(&i.data, lent(&mut o.table), &mut o.value);
+    fill_facts: names Nothing, records 0, values 0, table false, stream false, out false,
+        |t, i, o| raw::fill_facts(t.kinds, t.lefts, t.rights, t.count, &mut o.table.groups);
+    check_table: names Nothing, records 0, values 0, table true, stream false, out false,
+        |t, i, o| raw::check_table(t);
+    facts_of: names Type, records 0, values 7, table true, stream false, out false,
+        |t, i, o| raw::facts_of(t, i.node, &mut o.values);
+    same_type: names TwoTypes, records 0, values 0, table true, stream false, out false,
+        |t, i, o| raw::same_type(t, i.node, i.other, &mut o.value);
+    is_unit: names Type, records 0, values 0, table true, stream false, out false,
+        |t, i, o| raw::is_unit(t, i.node, &mut o.value);
+    is_empty: names Type, records 0, values 0, table true, stream false, out false,
+        |t, i, o| raw::is_empty(t, i.node, &mut o.value);
+    type_as_sum: names Type, records 0, values 2, table true, stream false, out false,
+        |t, i, o| raw::type_as_sum(t, i.node, &mut o.values);
+    type_as_product: names Type, records 0, values 2, table true, stream false, out false,
+        |t, i, o| raw::type_as_product(t, i.node, &mut o.values);
+    pad_left: names TwoTypes, records 0, values 0, table true, stream false, out false,
+        |t, i, o| raw::pad_left(t, i.node, i.other, &mut o.value);
+    pad_right: names TwoTypes, records 0, values 0, table true, stream false, out false,
+        |t, i, o| raw::pad_right(t, i.node, i.other, &mut o.value);
+    as_word: names Type, records 0, values 0, table true, stream false, out false,
+        |t, i, o| raw::as_word(t, i.node, &mut o.value);
+    word_width: names Nothing, records 0, values 0, table false, stream false, out false,
+        |t, i, o| raw::word_width(i.n, &mut o.value);
+    buffer_width: names Nothing, records 0, values 0, table false, stream false, out false,
+        |t, i, o| raw::buffer_width(i.n, &mut o.value);
+    is_buffer8: names Type, records 0, values 0, table true, stream false, out false,
+        |t, i, o| raw::is_buffer8(t, i.node, i.n, &mut o.value);
+    is_ctx8: names Type, records 0, values 0, table true, stream false, out false,
+        |t, i, o| raw::is_ctx8(t, i.node, &mut o.value);
+    as_left: names Nothing, records 1, values 2, table true, stream false, out false,
+        |t, i, o| raw::as_left(t, &a(i), &mut o.values);
+    as_right: names Nothing, records 1, values 2, table true, stream false, out false,
+        |t, i, o| raw::as_right(t, &a(i), &mut o.values);
+    as_product: names Nothing, records 1, values 4, table true, stream false, out false,
+        |t, i, o| raw::as_product(t, &a(i), &mut o.values);
+    equal: names Nothing, records 2, values 0, table true, stream false, out false,
+        |t, i, o| raw::equal(t, &a(i), &b(i), &mut o.value);
+    compare: names Nothing, records 2, values 0, table true, stream false, out false,
+        |t, i, o| raw::compare(t, &a(i), &b(i), &mut o.value);
+    compact_len: names Nothing, records 1, values 0, table true, stream false, out false,
+        |t, i, o| raw::compact_len(t, &a(i), &mut o.value);
+    padded_len: names Nothing, records 1, values 0, table true, stream false, out false,
+        |t, i, o| raw::padded_len(t, &a(i), &mut o.value);
+    unit: names RecordType, records 0, values 0, table true, stream false, out true,
+        |t, i, o| raw::unit(t, i.node, &mut o.value, &mut o.out);
+    left: names RecordType, records 1, values 0, table true, stream false, out true,
+        |t, i, o| raw::left(t, &a(i), i.node, &mut o.value, &mut o.out);
+    right: names RecordType, records 1, values 0, table true, stream false, out true,
+        |t, i, o| raw::right(t, &a(i), i.node, &mut o.value, &mut o.out);
+    product: names RecordType, records 2, values 0, table true, stream false, out true,
+        |t, i, o| raw::product(t, &a(i), &b(i), i.node, &mut o.value, &mut o.out);
+    none: names RecordType, records 0, values 0, table true, stream false, out true,
+        |t, i, o| raw::none(t, i.node, &mut o.value, &mut o.out);
+    some: names RecordType, records 1, values 0, table true, stream false, out true,
+        |t, i, o| raw::some(t, &a(i), i.node, &mut o.value, &mut o.out);
+    zero: names RecordType, records 0, values 0, table true, stream false, out true,
+        |t, i, o| raw::zero(t, i.node, &mut o.value, &mut o.out);
+    u1: names RecordType, records 0, values 0, table true, stream false, out true,
+        |t, i, o| raw::u1(t, i.n, i.node, &mut o.value, &mut o.out);
+    u2: names RecordType, records 0, values 0, table true, stream false, out true,
+        |t, i, o| raw::u2(t, i.n, i.node, &mut o.value, &mut o.out);
+    u4: names RecordType, records 0, values 0, table true, stream false, out true,
+        |t, i, o| raw::u4(t, i.n, i.node, &mut o.value, &mut o.out);
+    u8: names RecordType, records 0, values 0, table true, stream false, out true,
+        |t, i, o| raw::u8(t, &i.data, i.node, &mut o.value, &mut o.out);
+    u16: names RecordType, records 0, values 0, table true, stream false, out true,
+        |t, i, o| raw::u16(t, &i.data, i.node, &mut o.value, &mut o.out);
+    u32: names RecordType, records 0, values 0, table true, stream false, out true,
+        |t, i, o| raw::u32(t, &i.data, i.node, &mut o.value, &mut o.out);
+    u64: names RecordType, records 0, values 0, table true, stream false, out true,
+        |t, i, o| raw::u64(t, &i.data, i.node, &mut o.value, &mut o.out);
+    u128: names RecordType, records 0, values 0, table true, stream false, out true,
+        |t, i, o| raw::u128(t, &i.data, i.node, &mut o.value, &mut o.out);
+    u256: names RecordType, records 0, values 0, table true, stream false, out true,
+        |t, i, o| raw::u256(t, &i.data, i.node, &mut o.value, &mut o.out);
+    u512: names RecordType, records 0, values 0, table true, stream false, out true,
+        |t, i, o| raw::u512(t, &i.data, i.node, &mut o.value, &mut o.out);
+    from_byte_array: names RecordType, records 0, values 0, table true, stream false, out true,
+        |t, i, o| raw::from_byte_array(t, &i.data, i.node, &mut o.value, &mut o.out);
+    word_product: names RecordType, records 2, values 0, table true, stream false, out true,
+        |t, i, o| raw::word_product(t, &a(i), &b(i), i.node, &mut o.value, &mut o.out);
+    word_from_bits: names RecordType, records 0, values 0, table true, stream true, out true,
+        |t, i, o| raw::word_from_bits(t, &i.stream, i.length, &mut o.position, i.n, i.node, &mut o.out);
+    buffer8_two_n_plus_one: names RecordType, records 0, values 0, table true, stream false, out true,
+        |t, i, o| raw::buffer8_two_n_plus_one(t, i.n, &i.data, i.node, &mut o.value, &mut o.out);
+    ctx8: names RecordType, records 0, values 0, table true, stream false, out true,
+        |t, i, o| raw::ctx8(t, &i.data, i.n, &i.buffer, i.node, &mut o.value, &mut o.out);
+    from_compact_bits: names RecordType, records 0, values 0, table true, stream true, out true,
+        |t, i, o| raw::from_compact_bits(t, &i.stream, i.length, &mut o.position, i.node, &mut o.out);
+    from_padded_bits: names RecordType, records 0, values 0, table true, stream true, out true,
+        |t, i, o| raw::from_padded_bits(t, &i.stream, i.length, &mut o.position, i.node, &mut o.out);
+    to_compact_bits: names Nothing, records 1, values 0, table true, stream false, out true,
+        |t, i, o| raw::to_compact_bits(t, &a(i), &mut o.value, &mut o.out);
+    to_padded_bits: names Nothing, records 1, values 0, table true, stream false, out true,
+        |t, i, o| raw::to_padded_bits(t, &a(i), &mut o.value, &mut o.out);
+    prune: names RecordType, records 1, values 0, table true, stream false, out true,
+        |t, i, o| raw::prune(t, &a(i), i.node, &mut o.value, &mut o.out);
+    // calls.list ends
 }
 
 impl Call {
     /// The world that the call accepts.
     pub fn good_world(&self) -> World {
         let mut world = World::new();
-        (self.good)(&mut world);
+        make_good(self.name, &mut world);
         world
     }
 

@@ -5,8 +5,8 @@ use native.Mathlib.Omega.{arith}
 use lib.ListN.{getD}
 use borrow.Author.Needs.{needs}
 use Rattle.meaning.specs.Tables.{Columns, columns}
-use Rattle.facts.proofs.Linking.{slot-below}
-use Rattle.facts.proofs.Finding.{ready-right, head-within, unit-told, left-reach, right-reach, left-told, right-told, classing, node-told}
+use Rattle.facts_classes.proofs.Linking.{slot-below}
+use Rattle.facts.proofs.Finding.{ready-right, head-within, unit-derived, left-reach, right-reach, left-facts, right-facts, classing, node-derived}
 use Rattle.facts.proofs.facts_at.Statement.{statement}
 use Rattle.facts.proofs.facts_at.Tie as tie
 
@@ -21,7 +21,7 @@ returns : tie.Need-returns
 returns c =
     let s = c .before .before .before .before .before .before in
     let x = s .args in
-    unit-told (cols s) (x .n) (ready-right (cols s) (x .groups .now) (x .heads .now) (x .links .now) (x .n) (s .pre)) (c .if1 .taken)
+    unit-derived (cols s) (x .n) (ready-right (cols s) (x .groups .now) (x .heads .now) (x .links .now) (x .n) (s .pre)) (c .if1 .taken)
 
 mul-side-at : tie.Need-mul-side-at
 mul-side-at c = search needs
@@ -89,10 +89,10 @@ class-at-requires c κs =
     let s = c .before .before .before .before .before .before .before .before .before .before .before .before .before .before .before in
     let x = s .args in
     let ne = c .before .before .before .before .before .before .before .before .before .if1 .left in
-    let sx = c .before .before .before .before .before .before .before .side-at .ensures (cols s) (left-told (cols s) (x .groups .now) (x .heads .now) (x .links .now) (x .n) (s .pre) ne) in
-    let sy = c .before .before .before .before .before .side-at2 .ensures (cols s) (right-told (cols s) (x .groups .now) (x .heads .now) (x .links .now) (x .n) (s .pre) ne) in
+    let sx = c .before .before .before .before .before .before .before .side-at .ensures (cols s) (left-facts (cols s) (x .groups .now) (x .heads .now) (x .links .now) (x .n) (s .pre) ne) in
+    let sy = c .before .before .before .before .before .side-at2 .ensures (cols s) (right-facts (cols s) (x .groups .now) (x .heads .now) (x .links .now) (x .n) (s .pre) ne) in
     classing (cols s) (x .groups .now) (x .heads .now) (x .links .now) (x .n) (s .pre) ne (c .before .before .before .before .before .before .before .side-at .result .class) (c .before .before .before .before .before .side-at2 .result .class)
-    (getD (x .heads .now) (c .before .before .before .before .slot-of .result) 0) (sx .class-told) (sy .class-told)
+    (getD (x .heads .now) (c .before .before .before .before .slot-of .result) 0) (sx .class-is) (sy .class-is)
     (ap (λ (i : ℕ). getD (x .heads .now) i 0) (c .before .before .before .before .slot-of .ensures))
 
 returns-2 : tie.Need-returns-2
@@ -100,9 +100,9 @@ returns-2 c =
     let s = c .before .before .before .before .before .before .before .before .before .before .before .before .before .before .before .before in
     let x = s .args in
     let ne = c .before .before .before .before .before .before .before .before .before .before .if1 .left in
-    let sx = c .before .before .before .before .before .before .before .before .side-at .ensures (cols s) (left-told (cols s) (x .groups .now) (x .heads .now) (x .links .now) (x .n) (s .pre) ne) in
-    let sy = c .before .before .before .before .before .before .side-at2 .ensures (cols s) (right-told (cols s) (x .groups .now) (x .heads .now) (x .links .now) (x .n) (s .pre) ne) in
-    node-told (cols s) (x .groups .now) (x .heads .now) (x .links .now) (x .n) (s .pre) ne (c .before .before .before .before .before .before .before .before .side-at .result) (c .before .before .before .before .before .before .side-at2 .result)
+    let sx = c .before .before .before .before .before .before .before .before .side-at .ensures (cols s) (left-facts (cols s) (x .groups .now) (x .heads .now) (x .links .now) (x .n) (s .pre) ne) in
+    let sy = c .before .before .before .before .before .before .side-at2 .ensures (cols s) (right-facts (cols s) (x .groups .now) (x .heads .now) (x .links .now) (x .n) (s .pre) ne) in
+    node-derived (cols s) (x .groups .now) (x .heads .now) (x .links .now) (x .n) (s .pre) ne (c .before .before .before .before .before .before .before .before .side-at .result) (c .before .before .before .before .before .before .side-at2 .result)
     (record {
       width = c .before .before .before .width-by .result;
       size = c .before .before .size-by .result;

@@ -7,9 +7,9 @@ use borrow.Author.Needs.{needs}
 use Rattle.meaning.specs.Tables.{Columns, columns, kind, left, right, classOf}
 use Rattle.meaning.specs.TypeCalls.{groupsWritten}
 use Rattle.meaning.proofs.Trees.{class-le}
-use Rattle.facts.specs.Chains.{Chained}
+use Rattle.facts_classes.specs.Chains.{Chained}
 use Rattle.facts.specs.Known.{FullReach}
-use Rattle.facts.proofs.Linking.{slot-below, chain-none}
+use Rattle.facts_classes.proofs.Linking.{slot-below, chain-none}
 use Rattle.facts.proofs.Finding.{more-reach}
 use Rattle.facts.proofs.Filling.{filled-none, filled-more, filled-known, filled-length, filled-reach}
 use Rattle.facts.proofs.fill.Statement.{statement}
@@ -69,7 +69,7 @@ cast-put-facts : tie.Need-cast-put-facts Inv-loop μ-loop
 cast-put-facts c =
     let f = c .before .before in
     let t = turn f in
-    omega (arith, f .facts-at .ensures .class-told, class-le (cols (t .before)) (t .before .loop .n), room t)
+    omega (arith, f .facts-at .ensures .class-is, class-le (cols (t .before)) (t .before .loop .n), room t)
 
 put-facts-requires : tie.Need-put-facts-requires Inv-loop μ-loop
 put-facts-requires c κs = room (turn (c .before .before)) .groups-reach
@@ -81,7 +81,7 @@ chain-requires c κs =
     let l = t .before in
     let n = l .loop .n in
     let b = slot-below (kind (cols l) n) (classOf (cols l) (left (cols l) n)) (classOf (cols l) (right (cols l) n)) in
-    (omega (arith, f .facts-at .ensures .slot-told), omega (arith, room t))
+    (omega (arith, f .facts-at .ensures .slot-is), omega (arith, room t))
 
 add-n : tie.Need-add-n Inv-loop μ-loop
 add-n c = omega (arith, room (turn (c .before .before .before .before .before .before .before .before)))
@@ -94,11 +94,11 @@ loop-again c =
     let f = c .before .before .before .before .before .before .before .before in
     let t = turn f in
     let l = t .before in
-    let told = f .facts-at .ensures in (
+    let derived = f .facts-at .ensures in (
       omega (arith, t .loop-test .taken),
-      filled-more (cols l) (l .loop .n) (old l) (l .loop .groups) (l .loop .inv .1) _ (f .facts-at .result) told
+      filled-more (cols l) (l .loop .n) (old l) (l .loop .groups) (l .loop .inv .1) _ (f .facts-at .result) derived
           (c .before .before .before .before .before .put-facts .ensures),
-      c .chain .ensures (cols l) (l .loop .inv .2) (told .class-told) (told .slot-told),
+      c .chain .ensures (cols l) (l .loop .inv .2) (derived .class-is) (derived .slot-is),
     )
 
 same-length : tie.Need-same-length Inv-loop μ-loop

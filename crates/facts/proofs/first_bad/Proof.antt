@@ -7,10 +7,11 @@ use native.Mathlib.Omega.{arith}
 use borrow.Author.Needs.{needs}
 use borrow.Author.Tests.{not-true, not-false}
 use Rattle.meaning.specs.Tables.{Columns, columns, Facts, factsIn, Table, table, kind, left, right, classOf, entryRight, factsRight}
-use Rattle.facts.specs.Chains.{Chained}
+use Rattle.meaning.proofs.Tests.{and-no-left, and-no-right}
+use Rattle.facts_classes.specs.Chains.{Chained}
 use Rattle.facts.specs.Known.{Known}
-use Rattle.facts.proofs.Judging.{bad-here, no-bad, known-more, entry-fails, facts-fail}
-use Rattle.facts.proofs.Linking.{slot-below, chain-none}
+use Rattle.facts.proofs.Judging.{bad-here, no-bad, known-more}
+use Rattle.facts_classes.proofs.Linking.{slot-below, chain-none}
 use Rattle.facts.proofs.Finding.{more-reach}
 use Rattle.facts.proofs.first_bad.Statement.{statement}
 use Rattle.facts.proofs.first_bad.Tie as tie
@@ -57,7 +58,7 @@ loop-holds : tie.Need-loop-holds Inv-loop μ-loop
 loop-holds c =
     let x = c .before .before .before .before .args in (
       search needs,
-      record { entries = λ k l. absurd (not-suc-le-zero l); told = λ k l. absurd (not-suc-le-zero l) },
+      record { entries = λ k l. absurd (not-suc-le-zero l); facts-right = λ k l. absurd (not-suc-le-zero l) },
       chain-none (columns (x .kinds .now) (x .lefts .now) (x .rights .now)),
     )
 
@@ -84,7 +85,7 @@ unfolding entryRight
 returns c =
     let l = tested (c .before) in
     bad-here (whole l) (l .loop .n) (c .before .before .before .before .before .loop-test .taken) (l .loop .inv .1)
-    (entry-fails (entryRight (cols l) (l .loop .n)) (factsRight (cols l) (fcts l) (l .loop .n))
+    (and-no-left (entryRight (cols l) (l .loop .n)) (factsRight (cols l) (fcts l) (l .loop .n))
     (sym (c .before .entry-right .ensures) ∙ not-true (c .before .entry-right .result) (c .if1 .taken)))
 
 facts-at-requires : tie.Need-facts-at-requires Inv-loop μ-loop
@@ -108,7 +109,7 @@ returns-2 : tie.Need-returns-2 Inv-loop μ-loop
 returns-2 c =
     let l = found (c .before .before) in
     bad-here (whole l) (l .loop .n) (below (c .before .before)) (l .loop .inv .1)
-    (facts-fail (entryRight (cols l) (l .loop .n)) (factsRight (cols l) (fcts l) (l .loop .n)) (passed (c .before .before .before .before .before))
+    (and-no-right (entryRight (cols l) (l .loop .n)) (factsRight (cols l) (fcts l) (l .loop .n))
     (sym (compared (c .before)) ∙ not-true (c .before .agrees .result) (c .if2 .taken)))
 
 chain-requires : tie.Need-chain-requires Inv-loop μ-loop
@@ -117,7 +118,7 @@ chain-requires c κs =
     let l = found f in
     let n = l .loop .n in
     let b = slot-below (kind (cols l) n) (classOf (cols l) (left (cols l) n)) (classOf (cols l) (right (cols l) n)) in
-    (omega (arith, f .facts-at .ensures .slot-told), omega (arith, below f, begun l .pre .few))
+    (omega (arith, f .facts-at .ensures .slot-is), omega (arith, below f, begun l .pre .few))
 
 add-n : tie.Need-add-n Inv-loop μ-loop
 add-n c =
@@ -131,11 +132,11 @@ loop-again : tie.Need-loop-again Inv-loop μ-loop
 loop-again c =
     let f = c .before .before .before .before .before in
     let l = found f in
-    let told = f .facts-at .ensures in (
+    let derived = f .facts-at .ensures in (
       omega (arith, below f),
       known-more (cols l) (fcts l) (l .loop .n) (l .loop .inv .1) (passed (f .before .before .before))
           (sym (compared (c .before .before .before .before)) ∙ not-false (c .before .before .before .before .agrees .result) (c .before .before .before .if2 .left)),
-      c .chain .ensures (cols l) (l .loop .inv .2) (told .class-told) (told .slot-told),
+      c .chain .ensures (cols l) (l .loop .inv .2) (derived .class-is) (derived .slot-is),
     )
 
 returns-3 : tie.Need-returns-3 Inv-loop μ-loop

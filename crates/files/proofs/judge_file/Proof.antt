@@ -7,15 +7,16 @@ use native.Mathlib.Omega.{arith}
 use borrow.Author.Needs.{needs}
 use Rattle.meaning.specs.Tables.{countRight}
 use Rattle.meaning.specs.Files.{found, number}
-use Rattle.files.specs.Readings.{readAt, nodeOf, entryOf}
+use Rattle.files_numbers.specs.Readings.{readAt}
+use Rattle.files.specs.Readings.{nodeOf, entryOf}
 use Rattle.files.proofs.Nodes.{count-range}
-use Rattle.files.proofs.Entries.{ReadTo, read-none, read-more}
+use Rattle.files.proofs.Entries.{ReadUpTo, read-none, read-more}
 use Rattle.files.proofs.Whole.{verdict-count, verdict-node, verdict-surplus, verdict-sound}
 use Rattle.files.proofs.judge_file.Statement.{statement}
 use Rattle.files.proofs.judge_file.Tie as tie
 
 abbrev Inv-loop : tie.InvT-loop
-Inv-loop file count start at₀ n₀ at n = (n ≤ count) × ReadTo file start n at
+Inv-loop file count start at₀ n₀ at n = (n ≤ count) × ReadUpTo file start n at
 
 abbrev μ-loop : tie.MeasureT-loop
 μ-loop file count start at₀ n₀ at n = count - n
@@ -86,10 +87,10 @@ loop-again c =
     )
 
 -- After the loop all the nodes are read.
-all-read : (c : tie.After-loop Inv-loop μ-loop) → ReadTo (File (c .before .before)) (First (c .before .before)) (Count (c .before .before)) (c .before .loop .at)
+all-read : (c : tie.After-loop Inv-loop μ-loop) → ReadUpTo (File (c .before .before)) (First (c .before .before)) (Count (c .before .before)) (c .before .loop .at)
 all-read c =
     let e : c .before .loop .n ≡ Count (c .before .before) = omega arith in
-    subst (λ k. ReadTo (File (c .before .before)) (First (c .before .before)) k (c .before .loop .at)) e (c .before .loop .inv .1)
+    subst (λ k. ReadUpTo (File (c .before .before)) (First (c .before .before)) k (c .before .loop .at)) e (c .before .loop .inv .1)
 
 returns-3 : tie.Need-returns-3 Inv-loop μ-loop
 returns-3 c =

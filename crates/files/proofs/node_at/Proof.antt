@@ -8,7 +8,7 @@ use lib.Dec.{ltb}
 use borrow.Author.Needs.{needs}
 use borrow.Author.Tests.{ltb-true}
 use Rattle.meaning.specs.Files.{found, number}
-use Rattle.files.specs.Readings.{readAt}
+use Rattle.files_numbers.specs.Readings.{readAt}
 use Rattle.files.proofs.Nodes.{number-range, node-kind-fault, node-unit, node-left-fault, node-right-fault, node-sides}
 use Rattle.files.proofs.node_at.Statement.{statement}
 use Rattle.files.proofs.node_at.Tie as tie

@@ -11,9 +11,10 @@ use Rattle.meaning.specs.Files as file
 use Rattle.meaning.specs.Files.{found, number, entryFrom, tableIn}
 use Rattle.meaning.specs.TypeCalls.{entriesIn}
 use Rattle.meaning.proofs.Ladders.{accepted-refused}
-use Rattle.files.specs.Readings.{readAt, nodeOf, entryOf}
+use Rattle.files_numbers.specs.Readings.{readAt}
+use Rattle.files.specs.Readings.{nodeOf, entryOf}
 use Rattle.files.proofs.Nodes.{count-range}
-use Rattle.files.proofs.Entries.{ReadTo, firstNodes, read-none, read-more, more-nodes, read-length}
+use Rattle.files.proofs.Entries.{ReadUpTo, firstNodes, read-none, read-more, more-nodes, read-length}
 use Rattle.files.proofs.Whole.{verdict-count, verdict-node, sound-count, sound-nodes}
 use Rattle.files.proofs.Columns.{column, column-more, column-length}
 use Rattle.files.proofs.write_columns.Statement.{statement}
@@ -22,7 +23,7 @@ use Rattle.files.proofs.write_columns.Tie as tie
 abbrev Inv-loop : tie.InvT-loop
 Inv-loop file kinds₀ lefts₀ rights₀ count start at₀ n₀ kinds lefts rights at n =
     (n ≤ count)
-    × ReadTo file start n at
+    × ReadUpTo file start n at
     × (kinds ≡ column (λ e. e .kind) (firstNodes file start n) n kinds₀)
     × (lefts ≡ column (λ e. e .left) (firstNodes file start n) n lefts₀)
     × (rights ≡ column (λ e. e .right) (firstNodes file start n) n rights₀)

@@ -1,7 +1,7 @@
 -- `lines::head_line` meets its contract: the word, and the count. Assumes nothing.
 use native.Mathlib.Omega.{arith}
 use borrow.Author.Needs.{needs}
-use Rattle.lines.proofs.Puts.{wrote-then}
+use Rattle.lines_digits.proofs.Puts.{wrote-then}
 use Rattle.lines.proofs.head_line.Statement.{statement}
 use Rattle.lines.proofs.head_line.Tie as tie
 

@@ -4,8 +4,8 @@ use mathlib.Core.List.{List}
 use native.Mathlib.Omega.{arith}
 use lib.ListN.{length}
 use borrow.Author.Needs.{needs}
-use Rattle.lines.proofs.Decimals.{number-room, byte-room, kind-room}
-use Rattle.lines.proofs.Puts.{wrote-short, wrote-within}
+use Rattle.lines_digits.proofs.Decimals.{number-room, byte-room, kind-room}
+use Rattle.lines_digits.proofs.Puts.{wrote-short, wrote-within}
 use Rattle.lines.proofs.node_line.Statement.{statement}
 use Rattle.lines.proofs.node_line.Tie as tie
 

@@ -3,8 +3,8 @@ use Prim.Native.Nat.{_≤_}
 use native.Mathlib.Omega.{arith}
 use lib.ListN.{length}
 use borrow.Author.Needs.{needs}
-use Rattle.lines.proofs.Decimals.{number-room}
-use Rattle.lines.proofs.Puts.{wrote-then, wrote-short, wrote-within, printed}
+use Rattle.lines_digits.proofs.Decimals.{number-room}
+use Rattle.lines_digits.proofs.Puts.{wrote-then, wrote-short, wrote-within, printed}
 use Rattle.lines.proofs.refusal_line.Statement.{statement}
 use Rattle.lines.proofs.refusal_line.Tie as tie
 

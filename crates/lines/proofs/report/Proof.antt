@@ -8,16 +8,16 @@ use lib.ListN.{length, getD}
 use borrow.Author.Needs.{needs}
 use Rattle.meaning.specs.Groups.{groupSize}
 use Rattle.meaning.specs.Tables.{factsIn}
-use Rattle.lines.specs.Report.{headLine, nodeLine, lineIn, linesTo}
-use Rattle.lines.specs.Buffer.{Wrote}
-use Rattle.lines.proofs.Puts.{wrote-then, wrote-text, wrote-none, printed}
+use Rattle.lines_digits.specs.Report.{headLine, nodeLine, lineIn, linesTo}
+use Rattle.lines_digits.specs.Buffer.{PutAt}
+use Rattle.lines_digits.proofs.Puts.{wrote-then, wrote-text, wrote-none, printed}
 use Rattle.lines.proofs.Lines.{head-room, line-room, lines-more}
 use Rattle.lines.proofs.report.Statement.{statement}
 use Rattle.lines.proofs.report.Tie as tie
 
 abbrev Inv-loop : tie.InvT-loop
 Inv-loop out₀ kinds groups count at₀ k₀ out at k =
-    (k ≤ count) × (at ≤ at₀ + k * 96) × Wrote out₀ at₀ (linesTo (lineIn kinds (factsIn groups)) k) out at × (length out ≡ length out₀)
+    (k ≤ count) × (at ≤ at₀ + k * 96) × PutAt out₀ at₀ (linesTo (lineIn kinds (factsIn groups)) k) out at × (length out ≡ length out₀)
 
 abbrev μ-loop : tie.MeasureT-loop
 μ-loop out₀ kinds groups count at₀ k₀ out at k = count - k

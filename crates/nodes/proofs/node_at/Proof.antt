@@ -1,7 +1,7 @@
 -- `nodes::node_at` meets its contract: each field is an entry of a column or a fact of a group, and a sound table says what that is. Assumes nothing.
 use borrow.Author.Needs.{needs}
 use native.Mathlib.Omega.{arith}
-use mathlib.Core.Path.{_≡_, ap, _∙_}
+use mathlib.Core.Path.{_≡_, refl, ap, _∙_}
 use Prim.Native.Nat.{ℕ, _+_, _*_, _≤_, _<_}
 use lib.Dec.{eqb}
 use lib.ListN.{length}
@@ -84,6 +84,8 @@ returns c =
     record {
       tree = sound-tree t s n h;
       kind-low = sound-kind t s n h;
+      left-is = refl;
+      right-is = refl;
       left-in = sound-left t s n h;
       right-in = sound-right-side t s n h;
       left-falls = sound-left-falls t s n h;

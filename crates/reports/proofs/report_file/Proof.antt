@@ -8,8 +8,8 @@ use mathlib.Core.List.{List}
 use Rattle.answers.specs.Verdicts.{countOf}
 use Rattle.meaning.specs.Ladder.{accepted, refused}
 use Rattle.meaning.specs.TypeCalls.{readTableCall}
-use Rattle.lines.specs.Report.{groupsText, refusalLine}
-use Rattle.lines.specs.Buffer.{Printed}
+use Rattle.lines_digits.specs.Report.{groupsText, refusalLine}
+use Rattle.lines_digits.specs.Buffer.{Printed}
 use Rattle.lines.proofs.Texts.{accepted-text, refused-text}
 use Rattle.reports.proofs.Room.{zeroColumns, zeroGroups, only-faults, few}
 use Rattle.reports.proofs.report_file.Statement.{statement}

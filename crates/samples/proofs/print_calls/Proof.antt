@@ -1,14 +1,14 @@
--- `samples::print_calls` meets its contract: it prints a line for each number below 51, and ends. Assumes what `io`, `os` and `libc` say.
+-- `samples::print_calls` meets its contract: it prints at most a line for each number below 256, and ends. Assumes what `io`, `os` and `libc` say.
 use borrow.Author.Needs.{needs}
 use Prim.Native.Nat.{_≤_, _-_}
 use Rattle.samples.proofs.print_calls.Statement.{statement}
 use Rattle.samples.proofs.print_calls.Tie as tie
 
 abbrev Inv-loop : tie.InvT-loop
-Inv-loop replayed differing call₀ t4 t5 call = call ≤ 51
+Inv-loop replayed differing call₀ t4 t5 call = call ≤ 256
 
 abbrev μ-loop : tie.MeasureT-loop
-μ-loop replayed differing call₀ t4 t5 call = 51 - call
+μ-loop replayed differing call₀ t4 t5 call = 256 - call
 
 loop-holds : tie.Need-loop-holds Inv-loop μ-loop
 loop-holds c = search needs

@@ -7,7 +7,8 @@ use borrow.Author.Tests.{not-true, not-false}
 use Rattle.meaning.specs.Types.{same}
 use Rattle.meaning.specs.Tables.{Table, table, tyAt}
 use Rattle.meaning.specs.Words.{isWord, buffer}
-use Rattle.shapes.proofs.Shapes.{and-none, read-state, read-no-state, read-no-rest}
+use Rattle.meaning.proofs.Tests.{and-no-right}
+use Rattle.shapes.proofs.Shapes.{read-state, read-no-state, read-no-rest}
 use Rattle.shapes.proofs.is_ctx8.Statement.{statement}
 use Rattle.shapes.proofs.is_ctx8.Tie as tie
 
@@ -42,7 +43,7 @@ returns-3 c =
     let rest = c .before .before .before .before .node-at2 in
     sym
     (read-state (of (c .before .before .before .before .before .before .before .before .before .before .before .before)) (state .ensures) (rest .ensures) (c .before .before .before .before .before .if1 .left) (c .before .before .if2 .left)
-    ∙ and-none (same (tyAt (of (c .before .before .before .before .before .before .before .before .before .before .before .before) .columns) (state .result .left)) (buffer 5))
+    ∙ and-no-right (same (tyAt (of (c .before .before .before .before .before .before .before .before .before .before .before .before) .columns) (state .result .left)) (buffer 5))
     (isWord 6 (tyAt (of (c .before .before .before .before .before .before .before .before .before .before .before .before) .columns) (rest .result .left)) && isWord 8 (tyAt (of (c .before .before .before .before .before .before .before .before .before .before .before .before) .columns) (rest .result .right)))
     (ap (λ (b : Bool). b && isWord 8 (tyAt (of (c .before .before .before .before .before .before .before .before .before .before .before .before) .columns) (rest .result .right)))
     (sym (c .before .is-word .ensures) ∙ not-true (c .before .is-word .result) (c .if3 .taken))))
@@ -56,9 +57,9 @@ returns-4 c =
     let rest = c .before .before .before .before .before .before .node-at2 in
     sym
     (read-state (of (c .before .before .before .before .before .before .before .before .before .before .before .before .before .before)) (state .ensures) (rest .ensures) (c .before .before .before .before .before .before .before .if1 .left) (c .before .before .before .before .if2 .left)
-    ∙ and-none (same (tyAt (of (c .before .before .before .before .before .before .before .before .before .before .before .before .before .before) .columns) (state .result .left)) (buffer 5))
+    ∙ and-no-right (same (tyAt (of (c .before .before .before .before .before .before .before .before .before .before .before .before .before .before) .columns) (state .result .left)) (buffer 5))
     (isWord 6 (tyAt (of (c .before .before .before .before .before .before .before .before .before .before .before .before .before .before) .columns) (rest .result .left)) && isWord 8 (tyAt (of (c .before .before .before .before .before .before .before .before .before .before .before .before .before .before) .columns) (rest .result .right)))
-    (and-none (isWord 6 (tyAt (of (c .before .before .before .before .before .before .before .before .before .before .before .before .before .before) .columns) (rest .result .left))) (isWord 8 (tyAt (of (c .before .before .before .before .before .before .before .before .before .before .before .before .before .before) .columns) (rest .result .right)))
+    (and-no-right (isWord 6 (tyAt (of (c .before .before .before .before .before .before .before .before .before .before .before .before .before .before) .columns) (rest .result .left))) (isWord 8 (tyAt (of (c .before .before .before .before .before .before .before .before .before .before .before .before .before .before) .columns) (rest .result .right)))
     (sym (c .before .is-word2 .ensures) ∙ not-true (c .before .is-word2 .result) (c .if4 .taken))))
 
 is-buffer-requires : tie.Need-is-buffer-requires

@@ -1,5 +1,5 @@
--- `view::is_unit` meets its contract: a walk of its MIR, by hand. The node is read out of the view, and `table::is_unit` is called on it.
--- All that the proof knows of `table::is_unit` is that it meets its contract. The callee is lent the tokens of the table's lifetimes alone. Assumes nothing.
+-- `view::is_unit` meets its contract: a walk of its MIR, by hand. The node is read out of the view, and `types::is_unit` is called on it.
+-- All that the proof knows of `types::is_unit` is that it meets its contract. The callee is lent the tokens of the table's lifetimes alone. Assumes nothing.
 use mathlib.Core.Path.{_≡_, refl}
 use Prim.Native.Nat.{_+_}
 use mathlib.Core.List.{List, [], _∷_, _++_}
@@ -46,10 +46,10 @@ use Rattle.view.proofs.Owned.{denotsOf, valssOf, firsts, seconds, front
 use Rattle.view.proofs.Passed.{toldsOf}
 use Rattle.view.proofs.Thin.{Quiet, Asked, begins, asks, hears, ends}
 use Rattle.view.proofs.Tokens.{initLfts, lastLft, initShares, lastShare, apart, together}
-use Rattle.table.proofs.is_unit as question
-use Rattle.table.proofs.is_unit.Symbol as question-def
-use Rattle.table.proofs.is_unit.Symbol.{name as #table·is-unit}
-use Rattle.table.proofs.is_unit.Met as question-thm
+use Rattle.types.proofs.is_unit as question
+use Rattle.types.proofs.is_unit.Symbol as question-def
+use Rattle.types.proofs.is_unit.Symbol.{name as #types·is-unit}
+use Rattle.types.proofs.is_unit.Met as question-thm
 use Rattle.view.proofs.is_unit.Key.{name as #view·is-unit}
 use Rattle.view.proofs.is_unit as unit
 use Rattle.view.proofs.is_unit.Statement as stated
@@ -131,7 +131,7 @@ module _ {M : Type 1} (𝓤 : URA M) (H : Heap 𝓤) (A : Atoms 𝓤) (W : Given
       via 𝓤 (sep 𝓤 (sem 𝓤 H A (S.the-row .own r (u ∷ []))) (toks 𝓤 A (lfts 1) κs qs)) (monoR 𝓤 (sem 𝓤 H A (S.the-row .own r (u ∷ []))) (together 𝓤 A slices κs qs))
       (ends 𝓤 H A unit.ended (unit.clauses 𝓤 H A mem run) W at u (1 + columnParams) quiet r (λ _. factI 𝓤 (φ r) (emp 𝓤) e))
 
-  module _ (C : Calls 𝓤 H) (Λ : Loops 𝓤 H) (fm : FmC 𝓤 H (W .laws) C) (known : Triple 𝓤 (C #table·is-unit) (Question 𝓤 H A mem run)) where
+  module _ (C : Calls 𝓤 H) (Λ : Loops 𝓤 H) (fm : FmC 𝓤 H (W .laws) C) (known : Triple 𝓤 (C #types·is-unit) (Question 𝓤 H A mem run)) where
     walk : Typed (mirs params) (flat params vs)
         → ent 𝓤 (onEntry 𝓤 H A unit.signature κs qs a vs) (WpFn 𝓤 H C Λ code.function (flat params vs) (Unity 𝓤 H A mem run .post at))
     walk ty =
@@ -154,7 +154,7 @@ module _ {M : Type 1} (𝓤 : URA M) (H : Heap 𝓤) (A : Atoms 𝓤) (W : Given
         by ! (exits r u e))))
 
 unit-meets : {M : Type 1} (𝓤 : URA M) (H : Heap 𝓤) (A : Atoms 𝓤) (W : Given 𝓤 H A) (mem : Memory → SProp 𝓤) (run : Routine → Fun 𝓤) (𝓣 : Tables 𝓤 H)
-    → Triple 𝓤 (𝓣 .C #table·is-unit) (Question 𝓤 H A mem run)
+    → Triple 𝓤 (𝓣 .C #types·is-unit) (Question 𝓤 H A mem run)
     → Meets 𝓤 H A unit.signature (WpFn 𝓤 H (𝓣 .C) (𝓣 .Λ) code.function) (unit.spec 𝓤 H A mem run)
 unit-meets 𝓤 H A W mem run 𝓣 known =
     begins 𝓤 H A unit.ended (unit.clauses 𝓤 H A mem run) (WpFn 𝓤 H (𝓣 .C) (𝓣 .Λ) code.function)
@@ -168,4 +168,4 @@ is-unit-spec 𝓤 H 𝓜 𝓖 𝓡 =
     entered 𝓤 H (Unity 𝓤 H (𝓖 .A) (𝓜 .mem) (𝓡 .run)) (tables 𝓤 H 𝓜 𝓡 code.env .C) (tables 𝓤 H 𝓜 𝓡 code.env .Λ) #view·is-unit code.function
     (code.unfolded 𝓤 H 𝓜 𝓡)
     (unit-meets 𝓤 H (𝓖 .A) (givenOf 𝓤 H 𝓜 𝓖) (𝓜 .mem) (𝓡 .run) (tablesOf 𝓤 H 𝓜 (tables 𝓤 H 𝓜 𝓡 code.env))
-    (cited 𝓤 H (Question 𝓤 H (𝓖 .A) (𝓜 .mem) (𝓡 .run)) 𝓜 𝓡 code.env #table·is-unit question-def.routine code.calls-table·is-unit (question-thm.met 𝓤 H 𝓜 𝓖 𝓡)))
+    (cited 𝓤 H (Question 𝓤 H (𝓖 .A) (𝓜 .mem) (𝓡 .run)) 𝓜 𝓡 code.env #types·is-unit question-def.routine code.calls-types·is-unit (question-thm.met 𝓤 H 𝓜 𝓖 𝓡)))

@@ -1,7 +1,7 @@
 -- `exports::buffers::qv_buffer8_two_n_plus_one` meets its contract: what crosses is what the call says, and its place is near. Assumes nothing.
 use borrow.Author.Needs.{needs}
 use Rattle.exports.proofs.Nears.{buffer-near}
-use Rattle.exports.proofs.Crossing.{crossing}
+use Rattle.exports_answers.proofs.Crossing.{crossing}
 use Rattle.exports.proofs.buffers.qv_buffer8_two_n_plus_one.Statement.{statement}
 use Rattle.exports.proofs.buffers.qv_buffer8_two_n_plus_one.Tie as tie
 

@@ -1,7 +1,7 @@
 -- `exports::codecs::qv_to_padded_bits` meets its contract: what crosses is what the call says, and its place is near. Assumes nothing.
 use borrow.Author.Needs.{needs}
 use Rattle.exports.proofs.Nears.{to-padded-near}
-use Rattle.exports.proofs.Crossing.{crossing}
+use Rattle.exports_answers.proofs.Crossing.{crossing}
 use Rattle.exports.proofs.codecs.qv_to_padded_bits.Statement.{statement}
 use Rattle.exports.proofs.codecs.qv_to_padded_bits.Tie as tie
 

@@ -1,7 +1,7 @@
 -- `exports::comparing::qv_compare` meets its contract: what crosses is what the call says, and its place is near. Assumes nothing.
 use borrow.Author.Needs.{needs}
 use Rattle.exports.proofs.Nears.{compare-near}
-use Rattle.exports.proofs.Crossing.{crossing}
+use Rattle.exports_answers.proofs.Crossing.{crossing}
 use Rattle.exports.proofs.comparing.qv_compare.Statement.{statement}
 use Rattle.exports.proofs.comparing.qv_compare.Tie as tie
 

@@ -1,7 +1,7 @@
 -- `exports::comparing::qv_equal` meets its contract: what crosses is what the call says, and its place is near. Assumes nothing.
 use borrow.Author.Needs.{needs}
 use Rattle.exports.proofs.Nears.{equal-near}
-use Rattle.exports.proofs.Crossing.{crossing}
+use Rattle.exports_answers.proofs.Crossing.{crossing}
 use Rattle.exports.proofs.comparing.qv_equal.Statement.{statement}
 use Rattle.exports.proofs.comparing.qv_equal.Tie as tie
 

@@ -1,7 +1,7 @@
 -- `exports::constructors::qv_left` meets its contract: what crosses is what the call says, and its place is near. Assumes nothing.
 use borrow.Author.Needs.{needs}
 use Rattle.exports.proofs.Nears.{left-near}
-use Rattle.exports.proofs.Crossing.{crossing}
+use Rattle.exports_answers.proofs.Crossing.{crossing}
 use Rattle.exports.proofs.constructors.qv_left.Statement.{statement}
 use Rattle.exports.proofs.constructors.qv_left.Tie as tie
 

@@ -1,7 +1,7 @@
 -- `exports::constructors::qv_none` meets its contract: what crosses is what the call says, and its place is near. Assumes nothing.
 use borrow.Author.Needs.{needs}
 use Rattle.exports.proofs.Nears.{none-near}
-use Rattle.exports.proofs.Crossing.{crossing}
+use Rattle.exports_answers.proofs.Crossing.{crossing}
 use Rattle.exports.proofs.constructors.qv_none.Statement.{statement}
 use Rattle.exports.proofs.constructors.qv_none.Tie as tie
 

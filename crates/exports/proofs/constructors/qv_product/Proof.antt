@@ -1,7 +1,7 @@
 -- `exports::constructors::qv_product` meets its contract: what crosses is what the call says, and its place is near. Assumes nothing.
 use borrow.Author.Needs.{needs}
 use Rattle.exports.proofs.Nears.{product-near}
-use Rattle.exports.proofs.Crossing.{crossing}
+use Rattle.exports_answers.proofs.Crossing.{crossing}
 use Rattle.exports.proofs.constructors.qv_product.Statement.{statement}
 use Rattle.exports.proofs.constructors.qv_product.Tie as tie
 

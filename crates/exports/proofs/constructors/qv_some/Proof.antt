@@ -1,7 +1,7 @@
 -- `exports::constructors::qv_some` meets its contract: what crosses is what the call says, and its place is near. Assumes nothing.
 use borrow.Author.Needs.{needs}
 use Rattle.exports.proofs.Nears.{some-near}
-use Rattle.exports.proofs.Crossing.{crossing}
+use Rattle.exports_answers.proofs.Crossing.{crossing}
 use Rattle.exports.proofs.constructors.qv_some.Statement.{statement}
 use Rattle.exports.proofs.constructors.qv_some.Tie as tie
 

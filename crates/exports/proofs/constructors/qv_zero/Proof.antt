@@ -1,7 +1,7 @@
 -- `exports::constructors::qv_zero` meets its contract: what crosses is what the call says, and its place is near. Assumes nothing.
 use borrow.Author.Needs.{needs}
 use Rattle.exports.proofs.Nears.{zero-near}
-use Rattle.exports.proofs.Crossing.{crossing}
+use Rattle.exports_answers.proofs.Crossing.{crossing}
 use Rattle.exports.proofs.constructors.qv_zero.Statement.{statement}
 use Rattle.exports.proofs.constructors.qv_zero.Tie as tie
 

@@ -1,7 +1,7 @@
 -- `exports::tables::qv_fill_facts` meets its contract: what crosses is what the call says, and its place is near. Assumes nothing.
 use borrow.Author.Needs.{needs}
 use Rattle.exports.proofs.Places.{fill-near}
-use Rattle.exports.proofs.Crossing.{crossing}
+use Rattle.exports_answers.proofs.Crossing.{crossing}
 use Rattle.exports.proofs.tables.qv_fill_facts.Statement.{statement}
 use Rattle.exports.proofs.tables.qv_fill_facts.Tie as tie
 

@@ -1,7 +1,7 @@
 -- `exports::tables::qv_read_table` meets its contract: what crosses is what the call says, and its place is near. Assumes nothing.
 use borrow.Author.Needs.{needs}
 use Rattle.exports.proofs.Offsets.{read-near}
-use Rattle.exports.proofs.Crossing.{crossing}
+use Rattle.exports_answers.proofs.Crossing.{crossing}
 use Rattle.exports.proofs.tables.qv_read_table.Statement.{statement}
 use Rattle.exports.proofs.tables.qv_read_table.Tie as tie
 

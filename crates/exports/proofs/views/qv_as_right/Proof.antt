@@ -1,7 +1,7 @@
 -- `exports::views::qv_as_right` meets its contract: what crosses is what the call says, and its place is near. Assumes nothing.
 use borrow.Author.Needs.{needs}
 use Rattle.exports.proofs.Nears.{as-right-near}
-use Rattle.exports.proofs.Crossing.{crossing}
+use Rattle.exports_answers.proofs.Crossing.{crossing}
 use Rattle.exports.proofs.views.qv_as_right.Statement.{statement}
 use Rattle.exports.proofs.views.qv_as_right.Tie as tie
 

@@ -1,15 +1,16 @@
--- `value::constructors::one_side` meets its contract: rungs 1 to 5 by `gate`, the others by the inner function. Assumes nothing.
+-- `value::constructors::one_side` meets its contract: rungs 1 to 5 by `checked_rungs`, the others by the inner function. Assumes nothing.
 use mathlib.Core.Path.{_≡_, sym, ap, _∙_}
 use mathlib.Core.Bool.{Bool}
 use mathlib.Core.List.{List, [], _∷_}
 use borrow.Author.Needs.{needs}
 use Rattle.meaning.specs.Tables.{Table, table}
-use Rattle.meaning.specs.Ladder.{Answer, accepted, Rung, ladder, Record, record-of, shaped}
+use Rattle.meaning.specs.Ladder.{accepted, Rung, ladder, Record, record-of, shaped}
 use Rattle.meaning.specs.RecordCalls.{handed}
 use Rattle.answers.specs.Verdicts.{doneOf}
-use Rattle.value.specs.Sides.{wrapFits, wrapBits}
-use Rattle.value.proofs.Gated.{one-held-to}
-use Rattle.value.proofs.Made.{gate-stopped, handed-on}
+use Rattle.value_fitting.specs.Fits.{wrapFits}
+use Rattle.value_making.specs.Wraps.{wrapBits}
+use Rattle.checked.proofs.Passed.{handed-passed}
+use Rattle.checked.proofs.Made.{first-stopped, handed-on}
 use Rattle.value.proofs.constructors.one_side.Statement.{statement}
 use Rattle.value.proofs.constructors.one_side.Tie as tie
 
@@ -23,7 +24,7 @@ it s = record-of (s .args .bytes .now) (s .args .offset) (s .args .node)
 
 -- The rung of the shape, and the bits of the record.
 abbrev shape : tie.Start → List Rung
-shape s = shaped (wrapFits (s .args .right) (of s) (it s) (s .args .result))
+shape s = shaped (wrapFits (s .args .right) (of s) (s .args .node) (s .args .result))
 
 abbrev whole : tie.Start → List Bool
 whole s = wrapBits (s .args .right) (of s) (it s) (s .args .result)
@@ -52,7 +53,7 @@ returns : tie.Need-returns
 returns c =
     let s = entry (c .before .before .before) in
     let r = c .before .judged .given in
-    gate-stopped (rungs s) (shape s) (whole s) (s .args .out .now) (r .0 .0 .number) (r .0 .0 .place)
+    first-stopped (rungs s) (shape s) (whole s) (s .args .out .now) (r .0 .0 .number) (r .0 .0 .place)
     (sym (c .before .before .before .record-to .ensures) ∙ ap doneOf (r .1))
 
 enum-told : tie.Need-enum-told
@@ -60,7 +61,8 @@ enum-told c = search needs
 
 wrap-requires : tie.Need-wrap-requires
 wrap-requires c κs =
-    let s = start (c .before) in one-held-to (of s) (it s) (s .args .result) (passed (c .before))
+    let s = start (c .before) in
+    let p = handed-passed (of s) (it s ∷ []) (s .args .result ∷ []) (passed (c .before)) in (p .0 .0, p .1 .0)
 
 same-length : tie.Need-same-length
 same-length c = search needs

@@ -1,15 +1,15 @@
--- `value::constructors::product` meets its contract: rungs 1 to 5 by `gate`, the others by the inner function. Assumes nothing.
+-- `value::constructors::product` meets its contract: rungs 1 to 5 by `checked_rungs`, the others by the inner function. Assumes nothing.
 use mathlib.Core.Path.{_≡_, sym, ap, _∙_}
 use mathlib.Core.Bool.{Bool}
 use mathlib.Core.List.{List, [], _∷_}
 use borrow.Author.Needs.{needs}
 use Rattle.meaning.specs.Tables.{Table, table}
-use Rattle.meaning.specs.Ladder.{Answer, accepted, Rung, ladder, Record, record-of, shaped}
+use Rattle.meaning.specs.Ladder.{accepted, Rung, ladder, Record, record-of, shaped}
 use Rattle.meaning.specs.RecordCalls.{handed, productBits}
 use Rattle.answers.specs.Verdicts.{doneOf}
-use Rattle.value.specs.Sides.{joinFits}
-use Rattle.value.proofs.Gated.{two-held-to}
-use Rattle.value.proofs.Made.{gate-stopped, handed-on}
+use Rattle.value_fitting.specs.Fits.{joinFits}
+use Rattle.checked.proofs.Passed.{handed-passed}
+use Rattle.checked.proofs.Made.{first-stopped, handed-on}
 use Rattle.value.proofs.constructors.product.Statement.{statement}
 use Rattle.value.proofs.constructors.product.Tie as tie
 
@@ -26,7 +26,7 @@ other s = record-of (s .args .b-bytes .now) (s .args .b-offset) (s .args .b-node
 
 -- The rung of the shape, and the bits of the record.
 abbrev shape : tie.Start → List Rung
-shape s = shaped (joinFits (of s) (one s) (other s) (s .args .result))
+shape s = shaped (joinFits (of s) (s .args .a-node) (s .args .b-node) (s .args .result))
 
 abbrev whole : tie.Start → List Bool
 whole s = productBits (of s) (one s) (other s)
@@ -55,7 +55,7 @@ returns : tie.Need-returns
 returns c =
     let s = entry (c .before .before .before) in
     let r = c .before .judged .given in
-    gate-stopped (rungs s) (shape s) (whole s) (s .args .out .now) (r .0 .0 .number) (r .0 .0 .place)
+    first-stopped (rungs s) (shape s) (whole s) (s .args .out .now) (r .0 .0 .number) (r .0 .0 .place)
     (sym (c .before .before .before .two-to .ensures) ∙ ap doneOf (r .1))
 
 enum-told : tie.Need-enum-told
@@ -63,7 +63,8 @@ enum-told c = search needs
 
 join-requires : tie.Need-join-requires
 join-requires c κs =
-    let s = start (c .before) in two-held-to (of s) (one s) (other s) (s .args .result) (passed (c .before))
+    let s = start (c .before) in
+    let p = handed-passed (of s) (one s ∷ other s ∷ []) (s .args .result ∷ []) (passed (c .before)) in (p .0 .0, (p .0 .1 .0, p .1 .0))
 
 same-length : tie.Need-same-length
 same-length c = search needs

@@ -1,13 +1,13 @@
--- `value::constructors::zero` meets its contract: rungs 1 to 5 by `gate`, 9 by the inner function. Assumes nothing.
+-- `value::constructors::zero` meets its contract: rungs 1 to 5 by `checked_rungs`, 9 by the inner function. Assumes nothing.
 use mathlib.Core.Path.{_≡_, sym, ap, _∙_}
 use mathlib.Core.List.{List, [], _∷_}
 use borrow.Author.Needs.{needs}
 use Rattle.meaning.specs.Tables.{Table, table}
-use Rattle.meaning.specs.Ladder.{Answer, accepted, Rung, ladder}
+use Rattle.meaning.specs.Ladder.{accepted, Rung, ladder}
 use Rattle.meaning.specs.RecordCalls.{handed, zeroBits}
 use Rattle.answers.specs.Verdicts.{doneOf}
-use Rattle.value.proofs.Gated.{result-named}
-use Rattle.value.proofs.Made.{gate-stopped, handed-on}
+use Rattle.checked.proofs.Passed.{handed-passed}
+use Rattle.checked.proofs.Made.{first-stopped, handed-on}
 use Rattle.value.proofs.constructors.zero.Statement.{statement}
 use Rattle.value.proofs.constructors.zero.Tie as tie
 
@@ -40,14 +40,14 @@ returns : tie.Need-returns
 returns c =
     let s = entry (c .before .before .before) in
     let r = c .before .judged .given in
-    gate-stopped (rungs s) [] (zeroBits (of s) (s .args .result)) (s .args .out .now) (r .0 .0 .number) (r .0 .0 .place)
+    first-stopped (rungs s) [] (zeroBits (of s) (s .args .result)) (s .args .out .now) (r .0 .0 .number) (r .0 .0 .place)
     (sym (c .before .before .before .result .ensures) ∙ ap doneOf (r .1))
 
 enum-told : tie.Need-enum-told
 enum-told c = search needs
 
 blank-requires : tie.Need-blank-requires
-blank-requires c κs = let s = start (c .before) in result-named (of s) (s .args .result) (passed (c .before))
+blank-requires c κs = let s = start (c .before) in handed-passed (of s) [] (s .args .result ∷ []) (passed (c .before)) .1 .0
 
 same-length : tie.Need-same-length
 same-length c = search needs

@@ -1,14 +1,14 @@
--- `value::views::as_product` meets its contract: rungs 1 to 5 by `gate`, the others by the inner function. Assumes nothing.
+-- `value::views::as_product` meets its contract: rungs 1 to 5 by `checked_rungs`, the others by the inner function. Assumes nothing.
 use mathlib.Core.Path.{_≡_, sym, ap, _∙_}
 use mathlib.Core.List.{List, [], _∷_}
 use borrow.Author.Needs.{needs}
 use Rattle.meaning.specs.Tables.{Table, table}
-use Rattle.meaning.specs.Ladder.{Answer, accepted, Rung, ladder, Record, record-of}
+use Rattle.meaning.specs.Ladder.{accepted, Rung, ladder, Record, record-of}
 use Rattle.meaning.specs.RecordCalls.{handed}
 use Rattle.meaning.proofs.Ladders.{ladder-pass, ladder-stop}
 use Rattle.answers.specs.Verdicts.{doneOf}
-use Rattle.value.specs.Sides.{partsSpots, partsRungs}
-use Rattle.value.proofs.Gated.{one-held}
+use Rattle.value_views.specs.Views.{partsSpots, partsRungs}
+use Rattle.checked.proofs.Passed.{handed-passed}
 use Rattle.value.proofs.views.as_product.Statement.{statement}
 use Rattle.value.proofs.views.as_product.Tie as tie
 
@@ -51,7 +51,7 @@ enum-told : tie.Need-enum-told
 enum-told c = search needs
 
 parts-requires : tie.Need-parts-requires
-parts-requires c κs = let s = start c in one-held (of s) (it s) (passed c)
+parts-requires c κs = let s = start c in handed-passed (of s) (it s ∷ []) [] (passed c) .0 .0
 
 returns-2 : tie.Need-returns-2
 returns-2 c =

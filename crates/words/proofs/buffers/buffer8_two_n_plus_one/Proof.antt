@@ -1,92 +1,40 @@
--- `words::buffers::buffer8_two_n_plus_one` meets its contract: the ladder's numbers in their order, then the segments. Assumes nothing.
-use Prim.Native.Nat.{ℕ, _+_, _*_, _^_, _≤_, _<_}
+-- `words::buffers::buffer8_two_n_plus_one` meets its contract: the first rungs, and what they let pass. Assumes nothing.
+use Prim.Native.Nat.{_+_, _^_}
 use mathlib.Core.Path.{_≡_, sym, ap, _∙_}
-use mathlib.Core.Bool.{Bool, true, _&&_}
-use mathlib.Core.List.{List, [], _∷_}
-use native.Mathlib.Nat.{two-pow-succ}
-use native.Mathlib.Numerals.{add-one}
-use native.Mathlib.Omega.{arith}
+use mathlib.Core.List.{List, [], _∷_, _++_}
+use mathlib.Core.Bool.{_&&_}
 use lib.Dec.{ltb}
 use lib.ListN.{length}
-use lib.Pow.{pow-mono}
-use lib.Seq.{paste}
 use borrow.Author.Needs.{needs}
-use borrow.Author.Tests.{lt-ltb, le-ltb, not-true, not-false}
 use Rattle.answers.specs.Verdicts.{doneOf}
-use Rattle.meaning.specs.Types.{bits, same}
 use Rattle.meaning.specs.Tables.{Table, table}
-use Rattle.meaning.specs.Bits.{bitsOf}
+use Rattle.meaning.specs.Types.{same}
 use Rattle.meaning.specs.Words.{buffer, bufferBits}
-use Rattle.meaning.specs.Ladder.{accepted, Rung, ladder, named, typeAt}
-use Rattle.meaning.specs.WordCalls.{bufferRungs}
-use Rattle.meaning.proofs.Tests.{and-both}
-use Rattle.bits.proofs.OfBytes.{are-bytes}
-use Rattle.bits.proofs.Packed.{finished}
-use Rattle.gate.proofs.Passed.{named-passed}
-use Rattle.shapes.proofs.Shapes.{and-none}
-use Rattle.shapes.proofs.Widths.{word-widths}
-use Rattle.words.proofs.Parts.{length-buffer, buffer-small}
-use Rattle.words.proofs.Rungs.{refuses, short, fulfils, range-stop, range-missed, range-shape, range-pass}
+use Rattle.meaning.specs.Ladder.{accepted, Rung, ladder, named, typeAt, ranged, shaped}
+use Rattle.checked.proofs.Passed.{named-passed}
+use Rattle.checked.proofs.Made.{first-stopped}
 use Rattle.words.proofs.buffers.buffer8_two_n_plus_one.Statement.{statement}
 use Rattle.words.proofs.buffers.buffer8_two_n_plus_one.Tie as tie
 
--- The table that the columns and the groups make; the tests of 6 and 7, the call's rungs and the record's bits; the rungs of the gate.
+-- The table that the columns and the groups make, the first rungs of the call and the others.
 abbrev of : tie.Start → Table
 of s =
     table (s .args .kinds .now) (s .args .lefts .now) (s .args .rights .now) (s .args .groups .now) (s .args .count)
 
-abbrev few : tie.Start → Bool
-few s = ltb (length (s .args .«data» .now)) (2 ^ (s .args .n + 1))
+abbrev first : tie.Start → List Rung
+first s = named (of s) (s .args .result ∷ [])
 
-abbrev ranges : tie.Start → Bool
-ranges s = ltb (s .args .n) 13 && few s
+abbrev rest : tie.Start → List Rung
+rest s =
+    ranged (ltb (s .args .n) 13 && ltb (length (s .args .«data» .now)) (2 ^ (s .args .n + 1)))
+    ++ shaped (same (typeAt (of s) (s .args .result)) (buffer (s .args .n)))
 
-abbrev fits : tie.Start → Bool
-fits s = same (typeAt (of s) (s .args .result)) (buffer (s .args .n))
+-- The first rungs, as they were answered.
+passed : (c : tie.After-enum-told) → ladder (first (c .before .before .before .before .before .before .before .before .before)) (tt {0}) ≡ accepted (tt {0})
+passed c = sym (c .before .before .named .ensures) ∙ ap doneOf (c .enum-told .given .1)
 
-abbrev rungs : tie.Start → List Rung
-rungs s = bufferRungs (of s) (s .args .n) (s .args .«data» .now) (s .args .result)
-
-abbrev bits-of : tie.Start → List Bool
-bits-of s = bufferBits (s .args .n) (s .args .«data» .now)
-
-abbrev gate : tie.Start → List Rung
-gate s = named (of s) (s .args .result ∷ [])
-
--- What the call is given, at any place past the gate.
-abbrev start : tie.After-enum-told → tie.Start
-start c = c .before .before .before .before .before .before .before .before .before
-
-passed : (c : tie.After-enum-told) → ladder (gate (start c)) (tt {0}) ≡ accepted (tt {0})
-passed c = sym (c .before .before .node .ensures) ∙ ap doneOf (c .enum-told .given .1)
-
--- The limit is 2 to the n + 1.
-limit-is : (c : tie.After-word-width) → 2 * c .word-width .result ≡ 2 ^ (start (c .before .before) .args .n + 1)
-limit-is c =
-    let e = c .word-width .ensures ∙ word-widths (start (c .before .before) .args .n) (omega arith) in
-    let p = two-pow-succ (start (c .before .before) .args .n) in
-    let d : 2 * c .word-width .result ≡ 2 ^ (start (c .before .before) .args .n) + 2 ^ (start (c .before .before) .args .n) = omega arith in
-    d ∙ sym p ∙ ap (λ (k : ℕ). 2 ^ k) (sym (add-one (start (c .before .before) .args .n)))
-
-limit-most : (n : ℕ) → n < 13 → 2 ^ (n + 1) ≤ 2 ^ 13
-limit-most n h = pow-mono {i = n + 1} {j = 13} (omega arith)
-
-in-range : (c : tie.Else2) → ranges (start (c .before .before .before)) ≡ true
-in-range c =
-    let s = start (c .before .before .before) in
-    let e = limit-is (c .before) in
-    let l = c .if2 .left in
-    and-both (ltb (s .args .n) 13) (few s) (lt-ltb (s .args .n) 13 (c .before .before .if1 .left))
-    (lt-ltb (length (s .args .«data» .now)) (2 ^ (s .args .n + 1)) (omega arith))
-
-all-right : (c : tie.Else3) → ladder (rungs (start (c .before .before .before .before .before))) (tt {0}) ≡ accepted (tt {0})
-all-right c =
-    let s = start (c .before .before .before .before .before) in
-    range-pass (gate s) (ranges s) (fits s) (passed (c .before .before .before .before .before)) (in-range (c .before .before))
-    (sym (c .before .is-buffer .ensures) ∙ not-false (c .before .is-buffer .result) (c .if3 .left))
-
-node-requires : tie.Need-node-requires
-node-requires c κs = search needs
+named-requires : tie.Need-named-requires
+named-requires c κs = search needs
 
 enum-known-judged : tie.Need-enum-known-judged
 enum-known-judged c = search needs
@@ -95,108 +43,24 @@ returns : tie.Need-returns
 returns c =
     let s = c .before .before .before .before .before .before .before .before .before .before in
     let r = c .before .judged .given .0 .0 in
-    refuses (rungs s) (bits-of s) (s .args .out .now) (r .number) (r .place)
-    (range-stop (gate s) (ranges s) (fits s) (r .number) (r .place) (sym (c .before .before .before .node .ensures) ∙ ap doneOf (c .before .judged .given .1)))
+    first-stopped (first s) (rest s) (bufferBits (s .args .n) (s .args .«data» .now)) (s .args .out .now) (r .number) (r .place)
+    (sym (c .before .before .before .named .ensures) ∙ ap doneOf (c .before .judged .given .1))
 
 enum-told : tie.Need-enum-told
 enum-told c = search needs
 
-returns-2 : tie.Need-returns-2
-returns-2 c =
-    let s = start (c .before) in
-    refuses (rungs s) (bits-of s) (s .args .out .now) 6 0
-    (range-missed (gate s) (ranges s) (fits s) (passed (c .before)) (ap (λ (b : Bool). b && few s) (le-ltb (s .args .n) 13 (c .if1 .taken))))
-
-word-width-requires : tie.Need-word-width-requires
-word-width-requires c κs = search needs
-
-mul-limit : tie.Need-mul-limit
-mul-limit c = let e = limit-is c in let m = limit-most (start (c .before .before) .args .n) (c .before .if1 .left) in record { fits = omega arith }
-
-returns-3 : tie.Need-returns-3
-returns-3 c =
-    let s = start (c .before .before .before) in
-    let e = limit-is (c .before) in
-    let l = c .if2 .taken in
-    refuses (rungs s) (bits-of s) (s .args .out .now) 6 0
-    (range-missed (gate s) (ranges s) (fits s) (passed (c .before .before .before))
-    (and-none (ltb (s .args .n) 13) (few s) (le-ltb (length (s .args .«data» .now)) (2 ^ (s .args .n + 1)) (omega arith))))
-
-is-buffer-requires : tie.Need-is-buffer-requires
-is-buffer-requires c κs =
-    let p = named-passed (of (start (c .before .before .before))) (start (c .before .before .before) .args .result ∷ []) (passed (c .before .before .before)) in (p .0, (p .1 .0 .here, c .before .before .if1 .left))
-
-returns-4 : tie.Need-returns-4
-returns-4 c =
-    let s = start (c .before .before .before .before .before) in
-    refuses (rungs s) (bits-of s) (s .args .out .now) 7 0
-    (range-shape (gate s) (ranges s) (fits s) (passed (c .before .before .before .before .before)) (in-range (c .before .before))
-    (sym (c .before .is-buffer .ensures) ∙ not-true (c .before .is-buffer .result) (c .if3 .taken)))
-
-buffer-width-requires : tie.Need-buffer-width-requires
-buffer-width-requires c κs = search needs
-
-add-if4 : tie.Need-add-if4
-add-if4 c =
-    let e = c .buffer-width .ensures in
-    let m = buffer-small (start (c .before .before .before .before .before .before) .args .n) (c .before .before .before .before .before .if1 .left) in
-    record { fits = omega arith }
-
-returns-5 : tie.Need-returns-5
-returns-5 c =
-    let s = start (c .before .before .before .before .before .before .before) in
-    let e = c .before .buffer-width .ensures in
-    let l = length-buffer (s .args .n) (s .args .«data» .now) in
-    short (rungs s) (bits-of s) (s .args .out .now) (all-right (c .before .before)) (omega arith)
-
-write-buffer-requires : tie.Need-write-buffer-requires
-write-buffer-requires c κs =
-    let e = c .before .before .buffer-width .ensures in
-    let m = buffer-small (start (c .before .before .before .before .before .before .before .before) .args .n) (c .before .before .before .before .before .before .before .if1 .left) in
-    let r = c .before .if4 .left in
-    (c .before .before .before .before .before .before .before .if1 .left, record { inside = omega arith; counted = omega arith })
-
-finish-requires : tie.Need-finish-requires
-finish-requires c κs = let r = c .before .before .before .before .before .if4 .left in let k = c .before .before .before .write-buffer .kept .0 in omega arith
+make-buffer-requires : tie.Need-make-buffer-requires
+make-buffer-requires c κs =
+    let s = c .before .before .before .before .before .before .before .before .before .before in
+    named-passed (of s) (s .args .result ∷ []) (passed (c .before)) .1 .0
 
 same-length : tie.Need-same-length
 same-length c = search needs
 
-returns-6 : tie.Need-returns-6
-returns-6 c =
-    let s = start (c .before .before .before .before .before .before .before .before .before .before .before .before .before .before .before) in
-    let a = s .args in
-    let w = c .before .before .before .before .before .before .before .before .before .buffer-width .result in
-    let e : w ≡ bits (buffer (a .n)) = c .before .before .before .before .before .before .before .before .before .buffer-width .ensures in
-    let l = length-buffer (a .n) (a .«data» .now) in
-    let wrote = c .before .before .before .before .before .before .write-buffer in
-    let done = c .before .before .finish in
-    let r = c .before .before .before .before .before .before .before .before .if4 .left in
-    fulfils (rungs s) (bits-of s) (a .out .now) (all-right (c .before .before .before .before .before .before .before .before .before .before)) (omega arith) w (e ∙ sym l) (done .last .0)
-    (finished (bits-of s) w (a .out .now) (wrote .last .0) (done .last .0) (l ∙ sym e)
-    (are-bytes (a .out .now) (c .before .before .before .before .before .before .before .before .before .before .before .before .before .before .before .before .before .before .slice-known .given))
-    (are-bytes (done .last .0) (c .slice-known3 .given))
-    (wrote .ensures ∙ ap (λ (k : ℕ). paste (bitsOf (a .out .now)) 0 (bits-of s) k) (sym e))
-    (done .ensures))
+returns-2 : tie.Need-returns-2
+returns-2 c = search needs
 
 pub buffer8-two-n-plus-one-spec : {M : Type 1} → statement M
 buffer8-two-n-plus-one-spec =
     tie.close
-    (tie.spec
-    node-requires
-    enum-known-judged
-    returns
-    enum-told
-    returns-2
-    word-width-requires
-    mul-limit
-    returns-3
-    is-buffer-requires
-    returns-4
-    buffer-width-requires
-    add-if4
-    returns-5
-    write-buffer-requires
-    finish-requires
-    same-length
-    returns-6)
+    (tie.spec named-requires enum-known-judged returns enum-told make-buffer-requires same-length returns-2)

@@ -1,0 +1,8 @@
+-- The laws of what was checked.
+pub mod Lent
+pub mod Made
+pub mod Nodes
+pub mod Passed
+pub mod Passes
+pub mod Read
+pub mod Shaped

@@ -1,0 +1,2 @@
+-- Laws of questions about nodes.
+pub mod Asking

@@ -1,0 +1,2 @@
+-- Where a reading ends.
+pub mod Ends

@@ -1,0 +1,2 @@
+-- What the walks of the codecs answer.
+pub mod Walks

@@ -1,0 +1,2 @@
+-- Laws of a number in a file that belong to no one function.
+pub mod Numbers

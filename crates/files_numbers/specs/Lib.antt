@@ -1,0 +1,2 @@
+-- What the functions over a number answer.
+pub mod Readings

@@ -1,0 +1,3 @@
+-- The text that the report program prints, and what a buffer holds after a part of it was written.
+pub mod Report
+pub mod Buffer

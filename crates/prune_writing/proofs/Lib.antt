@@ -1,0 +1,2 @@
+-- What the walk that writes has written.
+pub mod Writes

@@ -1,0 +1,2 @@
+-- How `fill_facts` answers.
+pub mod Fillings

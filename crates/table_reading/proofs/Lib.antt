@@ -1,0 +1,2 @@
+-- How `read_table` answers.
+pub mod Readings

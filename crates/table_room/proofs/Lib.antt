@@ -1,0 +1,2 @@
+-- The tests of the lengths of columns.
+pub mod Room

@@ -1,0 +1,3 @@
+-- Laws of the questions about types.
+pub mod Told
+pub mod Types

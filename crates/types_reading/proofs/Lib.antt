@@ -1,0 +1,2 @@
+-- The facts of a node, as they are read.
+pub mod Read

@@ -1,0 +1,2 @@
+-- What the contracts of `value_making` cite beside the definitions of `meaning`.
+pub mod Wraps

@@ -1,0 +1,2 @@
+-- The laws of the views.
+pub mod Viewed

@@ -1,0 +1,2 @@
+-- Laws of the questions about words and buffers.
+pub mod Shaped

@@ -1,3 +1,0 @@
--- What the contracts of `words` cite beside the definitions of `meaning`.
-pub mod Held
-pub mod State
