@@ -1,9 +1,9 @@
 -- Writing and reading undo one another, as a caller meets them: what one call has written, the next one takes.
 --
---   compact-write-read              compact bits that were written are read back to the record with zero padding, whatever follows them
---   compact-write-read-plain        a record with zero padding comes back bit for bit
---   compact-read-write              what was read, written again, is what was consumed
---   padded-write-read padded-read-write     the same of padded bits, with the padding as it is
+--   compact-write-read-calls              compact bits that were written are read back to the record with zero padding, whatever follows them
+--   compact-write-read-plain-calls        a record with zero padding comes back bit for bit
+--   compact-read-write-calls              what was read, written again, is what was consumed
+--   padded-write-read-calls padded-read-write-calls     the same of padded bits, with the padding as it is
 -- Assumes nothing.
 use mathlib.Core.Path.{_≡_, sym, ap, _∙_, subst}
 use mathlib.Core.Bool.{Bool}
@@ -50,11 +50,11 @@ streamed t r v out after n u w e h =
 
 module _ (t : Table) (r : Record) (out next-out : List ℕ) (n u : ℕ) (l : n ≤ u) (h : u ≤ 8 * length out)
     (room-left : room (bits (typeOf t r)) ≤ length next-out) where
-  pub compact-write-read : toCompactCall t r out ≡ accepted n
+  pub compact-write-read-calls : toCompactCall t r out ≡ accepted n
       → (fromCompactCall t (stream-of (toCompactOut t r out) u 0) (r .node) next-out ≡ accepted n)
       × (recordBits t (at-zero (fromCompactOut t (stream-of (toCompactOut t r out) u 0) (r .node) next-out) (r .node))
       ≡ plain (typeOf t r) (recordBits t r))
-  compact-write-read c =
+  compact-write-read-calls c =
       let w = compact-wrote t r out n c in
       let s = stream-of (toCompactOut t r out) u 0 in
       let b : Begins (compactBits t r) (restOf s) =
@@ -67,14 +67,14 @@ module _ (t : Table) (r : Record) (out next-out : List ℕ) (n u : ℕ) (l : n �
       room-left in
       (got .0 ∙ ap accepted (zero-add (length (compactBits t r)) ∙ sym (w .count)), got .1)
 
-  pub compact-write-read-plain : toCompactCall t r out ≡ accepted n → plain (typeOf t r) (recordBits t r) ≡ recordBits t r
+  pub compact-write-read-plain-calls : toCompactCall t r out ≡ accepted n → plain (typeOf t r) (recordBits t r) ≡ recordBits t r
       → recordBits t (at-zero (fromCompactOut t (stream-of (toCompactOut t r out) u 0) (r .node) next-out) (r .node)) ≡ recordBits t r
-  compact-write-read-plain c z = compact-write-read c .1 ∙ z
+  compact-write-read-plain-calls c z = compact-write-read-calls c .1 ∙ z
 
-  pub padded-write-read : toPaddedCall t r out ≡ accepted n
+  pub padded-write-read-calls : toPaddedCall t r out ≡ accepted n
       → (fromPaddedCall t (stream-of (toPaddedOut t r out) u 0) (r .node) next-out ≡ accepted n)
       × (recordBits t (at-zero (fromPaddedOut t (stream-of (toPaddedOut t r out) u 0) (r .node) next-out) (r .node)) ≡ recordBits t r)
-  padded-write-read c =
+  padded-write-read-calls c =
       let w = padded-wrote t r out n c in
       let s = stream-of (toPaddedOut t r out) u 0 in
       let wide = own-length t r (w .held) in
@@ -90,20 +90,20 @@ module _ (t : Table) (r : Record) (out next-out : List ℕ) (n u : ℕ) (l : n �
       (got .0 ∙ ap accepted (zero-add (bits (typeOf t r)) ∙ sym wide ∙ sym (w .count)), got .1)
 
 module _ (t : Table) (s : Stream) (node : ℕ) (out next-out : List ℕ) (next : ℕ) where
-  pub compact-read-write : fromCompactCall t s node out ≡ accepted next → room (next - s .position) ≤ length next-out
+  pub compact-read-write-calls : fromCompactCall t s node out ≡ accepted next → room (next - s .position) ≤ length next-out
       → (toCompactCall t (at-zero (fromCompactOut t s node out) node) next-out ≡ accepted (next - s .position))
       × (toCompactOut t (at-zero (fromCompactOut t s node out) node) next-out ≡ written (take (next - s .position) (restOf s)) next-out)
-  compact-read-write c l =
+  compact-read-write-calls c l =
       let g = compact-got t s node out next c in
       let r = at-zero (fromCompactOut t s node out) node in
       let n : length (compactBits t r) ≡ next - s .position = omega (arith, g .consumed-count) in
       let put = compact-writes t r next-out (g .held) (subst (λ (k : ℕ). room k ≤ length next-out) (sym n) l) in
       (put .0 ∙ ap accepted n, put .1 ∙ ap (λ (v : List Bool). written v next-out) (g .consumed-bits))
 
-  pub padded-read-write : fromPaddedCall t s node out ≡ accepted next → room (next - s .position) ≤ length next-out
+  pub padded-read-write-calls : fromPaddedCall t s node out ≡ accepted next → room (next - s .position) ≤ length next-out
       → (toPaddedCall t (at-zero (fromPaddedOut t s node out) node) next-out ≡ accepted (next - s .position))
       × (toPaddedOut t (at-zero (fromPaddedOut t s node out) node) next-out ≡ written (take (next - s .position) (restOf s)) next-out)
-  padded-read-write c l =
+  padded-read-write-calls c l =
       let g = padded-got t s node out next c in
       let r = at-zero (fromPaddedOut t s node out) node in
       let b : bits (typeAt t node) ≡ next - s .position = omega (arith, g .consumed-count) in

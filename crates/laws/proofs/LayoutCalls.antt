@@ -1,49 +1,49 @@
 -- K9, a law a call. Two tables have the same columns and count, and facts in two layouts that hold the same (`SameFacts`), sound or not: every
 -- call answers both the same, number and place included, and leaves the same in each lent buffer. What C's calls answer with, and the numbers
--- and entries that they store, are functions of this answer and of what was lent alone (`exports`, specs/Codes), so they are equal with it.
+-- and entries that they store, are functions of this answer and of what was lent alone (`exports_answers`, specs/Codes), so they are equal with it.
 --
 --   answer-same                 any ladder that begins with rung 1
 --   kept-same                   a buffer that stays as it stood where such a ladder refuses
 -- and, law, definition (same: the answer; out-same: the output) and exported call:
---   check-table-same                          checkTableCall                      check_table
---   facts-of-same                             factsOf                         facts_of
---   same-type-same                            sameTypeCall                        same_type
---   is-unit-same                              isUnitCall                      is_unit
---   is-empty-same                             isEmptyCall                     is_empty
---   type-as-sum-same                          typeAsSumCall                       type_as_sum
---   type-as-product-same                      typeAsProductCall                   type_as_product
---   pad-left-same                             padLeftCall                     pad_left
---   pad-right-same                            padRightCall                    pad_right
---   as-word-same                              asWordCall                      as_word
---   is-buffer8-same                           isBuffer8Call                       is_buffer8
---   is-ctx8-same                              isCtx8Call                          is_ctx8
---   as-left-same                              asLeftCall                          as_left
---   as-right-same                             asRightCall                         as_right
---   as-product-same                           asProductCall                       as_product
---   equal-same                                equal                           equal
---   compare-same                              compareCall                     compare
---   compact-len-same                          compactLenCall                      compact_len
---   padded-len-same                           paddedLenCall                       padded_len
---   unit-same unit-out-same                   unitCall unitOut                unit
---   left-same left-out-same                   leftCall leftOut                left
---   right-same right-out-same                 rightCall rightOut              right
---   product-same product-out-same             productCall productOut          product
---   none-same none-out-same                   noneCall noneOut                none
---   some-same some-out-same                   someCall someOut                some
---   zero-same zero-out-same                   zeroCall zeroOut                zero
---   number-same number-out-same               numberCall numberOut            u1 u2 u4
---   bytes-same bytes-out-same                 bytesCall bytesOut              u8 u16 u32 u64 u128 u256 u512
---   array-same array-out-same                 arrayCall arrayOut              from_byte_array
---   join-same join-out-same                   joinCall joinOut                word_product
---   word-read-same word-read-out-same         wordReadCall wordReadOut        word_from_bits
---   buffer-same buffer-out-same               bufferCall bufferOut            buffer8_two_n_plus_one
---   ctx8-same ctx8-out-same                   ctx8Call ctx8Out                ctx8 of a struct
---   from-range-same from-range-out-same       fromRange                       whatever is made after these rungs: ctx8 of slices, as `exports` has it
---   from-compact-same from-compact-out-same   fromCompactCall fromCompactOut  from_compact_bits
---   from-padded-same from-padded-out-same     fromPaddedCall fromPaddedOut    from_padded_bits
---   to-compact-same to-compact-out-same       toCompactCall toCompactOut      to_compact_bits
---   to-padded-same to-padded-out-same         toPaddedCall toPaddedOut        to_padded_bits
---   prune-same prune-out-same                 pruneCall pruneOut              prune
+--   check-table-same                         checkTableCall                          check_table
+--   facts-of-same                            factsOfCall                             facts_of
+--   same-type-same                           sameTypeCall                            same_type
+--   is-unit-same                             isUnitCall                              is_unit
+--   is-empty-same                            isEmptyCall                             is_empty
+--   type-as-sum-same                         typeAsSumCall                           type_as_sum
+--   type-as-product-same                     typeAsProductCall                       type_as_product
+--   pad-left-same                            padLeftCall                             pad_left
+--   pad-right-same                           padRightCall                            pad_right
+--   as-word-same                             asWordCall                              as_word
+--   is-buffer8-same                          isBuffer8Call                           is_buffer8
+--   is-ctx8-same                             isCtx8Call                              is_ctx8
+--   as-left-same                             asLeftCall                              as_left
+--   as-right-same                            asRightCall                             as_right
+--   as-product-same                          asProductCall                           as_product
+--   equal-same                               equalCall                               equal
+--   compare-same                             compareCall                             compare
+--   compact-len-same                         compactLenCall                          compact_len
+--   padded-len-same                          paddedLenCall                           padded_len
+--   unit-same unit-out-same                  unitCall unitOut                        unit
+--   left-same left-out-same                  leftCall leftOut                        left
+--   right-same right-out-same                rightCall rightOut                      right
+--   product-same product-out-same            productCall productOut                  product
+--   none-same none-out-same                  noneCall noneOut                        none
+--   some-same some-out-same                  someCall someOut                        some
+--   zero-same zero-out-same                  zeroCall zeroOut                        zero
+--   number-same number-out-same              numberCall numberOut                    u1 u2 u4
+--   bytes-same bytes-out-same                bytesCall bytesOut                      u8 u16 u32 u64 u128 u256 u512
+--   array-same array-out-same                arrayCall arrayOut                      from_byte_array
+--   join-same join-out-same                  joinCall joinOut                        word_product
+--   word-read-same word-read-out-same        wordReadCall wordReadOut                word_from_bits
+--   buffer-same buffer-out-same              bufferCall bufferOut                    buffer8_two_n_plus_one
+--   ctx8-same ctx8-out-same                  ctx8Call ctx8Out                        ctx8 of a struct
+--   from-range-same from-range-out-same      fromRange                               whatever is made after these rungs: ctx8 of slices, as `exports` has it
+--   from-compact-same from-compact-out-same  fromCompactCall fromCompactOut          from_compact_bits
+--   from-padded-same from-padded-out-same    fromPaddedCall fromPaddedOut            from_padded_bits
+--   to-compact-same to-compact-out-same      toCompactCall toCompactOut              to_compact_bits
+--   to-padded-same to-padded-out-same        toPaddedCall toPaddedOut                to_padded_bits
+--   prune-same prune-out-same                pruneCall pruneOut                      prune
 -- These are all exported calls but four. `word_width` and `buffer_width` are handed no table; `fill_facts` and `read_table` stand in
 -- `LayoutFills`. Assumes nothing.
 use Prim.Native.Nat.{ℕ}

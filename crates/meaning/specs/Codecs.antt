@@ -1,8 +1,10 @@
 -- The two readings: document 01, "Bits of a record". A stream is read from its position on.
 --
 --   Decoded                     the record and how many bits it consumed, or an early end
+--   underTag afterFirst bothParts       what a sum and a product decode to, from what their sides do
 --   decodeCompact               compact reading: zero padding
 --   decodePadded                padded reading: padding as read
+--   isEarly recordOf consumed   whether it ended early, the record, and how many bits it took
 use Prim.Native.Nat.{ℕ, zero, suc, _+_}
 use mathlib.Core.Bool.{Bool, true, false, cond}
 use mathlib.Core.List.{List, [], _∷_, _++_}

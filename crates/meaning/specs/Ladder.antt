@@ -3,7 +3,7 @@
 --
 --   Answer rung ladder          answers, a fact with its number and place, the first that holds
 --   kept                        a lent buffer afterwards: as it stood if refused
---   Record Stream               bytes, offset and node; bytes, length and position, in bits
+--   Record record-of Stream stream-of       bytes, offset and node; bytes, length and position, in bits
 --   typeAt typeOf               the type of a node, and of a record
 --   recordBits restOf           the own bits of a record; the bits of a stream from its position to its length
 --   widest largest              the limits of 3 and 4

@@ -3,9 +3,11 @@
 --   handed                      1 to 5 of a call on records
 --   Spot Spots addressed        sub-views, and where their offsets can be told
 --   asLeftCall asRightCall asProductCall    views
---   equal compareCall           equality and order
+--   orderThen orderTypes        the order of types, and then of bits
+--   equalCall compareCall       equality and order
 --   paddedLenCall compactLenCall        lengths
 --   results                     1 to 7 of a constructor
+--   unitRungs zeroRungs leftRungs …, zeroBits leftBits …     the rungs of each constructor, and the bits that it makes
 --   unitCall zeroCall leftCall rightCall noneCall someCall productCall, and the same with Out for the output
 use Prim.Native.Nat.{ℕ, zero, suc, _+_, _-_, Ordering, Ordering·lt, Ordering·eq, Ordering·gt, compare}
 use mathlib.Core.Bool.{Bool, true, false, not, _&&_}

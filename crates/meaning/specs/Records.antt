@@ -6,7 +6,7 @@
 --   inLeft inRight              a record made of its payload, new padding zero
 --   compact                     the tags met on the walk, left before right, without padding
 --   plain                       the record with the same tags and zero padding
---   sameBits orderBits          equality and order of bits
+--   sameBits orderBit orderBits     equality and order of bits
 use Prim.Native.Nat.{ℕ, zero, suc, _+_, _-_, max, Ordering, Ordering·lt, Ordering·eq, Ordering·gt}
 use mathlib.Core.Bool.{Bool, true, false, cond, _&&_, Bool·beq}
 use mathlib.Core.List.{List, [], _∷_, _++_}

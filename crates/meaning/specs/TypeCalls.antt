@@ -3,7 +3,9 @@
 --   checkTableCall                  the check
 --   groupOf groupsOf groupsWritten              the groups of nodes, and a buffer with them written
 --   fillFactsCall fillFactsOut      the groups of the facts, from the entries
+--   fileRung entriesIn entriesWritten columnsKept       a file's fault as a rung, its nodes, and the columns after it was read
 --   readTableCall readTableColumnsOut readTableGroupsOut  a table from its file
+--   Sides sidesAt               the two sides of a node
 --   asks factsOfCall sameTypeCall isUnitCall isEmptyCall typeAsSumCall typeAsProductCall padLeftCall padRightCall asWordCall
 --   wordWidthCall bufferWidthCall isBuffer8Call isCtx8Call      the type-only questions
 use Prim.Native.Nat.{ℕ, zero, suc, _*_, _-_, max}

@@ -1,6 +1,7 @@
 -- The calls on words, byte arrays, buffers and the hash state.
 --
 --   fromRange                   1 to 7 of a call that makes a record from numbers or bytes
+--   numberRungs bytesRungs arrayRungs joinRungs wordReadRungs bufferRungs ctx8Rungs     the rungs of each
 --   numberCall bytesCall arrayCall joinCall wordReadCall bufferCall ctx8Call, and the same with Out for the output
 use Prim.Native.Nat.{ℕ, zero, suc, _+_, _-_, _^_}
 use mathlib.Core.Bool.{Bool, _&&_}

@@ -6,7 +6,7 @@
 --   exponent                    the k of a length 2^k, or 29 where it is none or longer than any word
 --   joins                       two words of one type and the next word
 --   segment buffer              the buffer types
---   bufferBits                  a buffer that holds data
+--   segmentBits afterSegment bufferBits     a segment, what is left after it, and a buffer that holds data
 --   ctx8 HashState ctx8Bits     the hash state
 use Prim.Native.Nat.{ℕ, zero, suc, _+_, _*_, _/_, _^_}
 use mathlib.Core.Bool.{Bool, true, false, cond, _&&_}
