@@ -137,9 +137,9 @@ pub fn two_to(
     if let Done::Refused(r) = judged {
         return Done::Refused(r);
     }
-    let a = record_limit(groups, count, a_bytes.len(), a_offset, a_node);
-    let b = record_limit(groups, count, b_bytes.len(), b_offset, b_node);
-    limited(least(a, least(b, node_limit(groups, count, result))))
+    let first = record_limit(groups, count, a_bytes.len(), a_offset, a_node);
+    let second = record_limit(groups, count, b_bytes.len(), b_offset, b_node);
+    limited(least(first, least(second, node_limit(groups, count, result))))
 }
 
 // 1 to 5, of a stream and the type that is read from it.
