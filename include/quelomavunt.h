@@ -43,6 +43,10 @@
  *
  * A record that is made, read or cut starts at bit 0 of `out`, takes width / 8 bytes rounded up, and has zero bits
  * after its width; later bytes of `out` stay.
+ *
+ * Stack. A thread with QV_STACK_BYTES of stack may make any call. qv_from_compact_bits, qv_to_compact_bits,
+ * qv_compact_len and qv_prune go down a type by calling themselves, at most once for each node on the way, and need it
+ * for the deepest tables; every other call takes less than 8 KiB.
  */
 #ifndef QUELOMAVUNT_H
 #define QUELOMAVUNT_H
@@ -66,6 +70,9 @@ extern "C" {
 
 /* The widest record, in bits: 65,536 bytes of output hold any record. */
 #define QV_MOST_BITS 524288
+
+/* The bytes of stack that are enough for any call. */
+#define QV_STACK_BYTES 524288
 
 /* The parameters that stand for the table, first in every call that takes one. */
 #define QV_TABLE \

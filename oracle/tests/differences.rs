@@ -174,3 +174,41 @@ fn d10_buffers_stop_where_a_table_of_the_crate_stops() {
     assert_eq!(rules(&Request { n: 12, ..Request::new(Call::BufferWidth, Default::default()) }).values, [65_541]);
     assert_eq!(rules(&Request { n: 13, ..Request::new(Call::BufferWidth, Default::default()) }).code, 6);
 }
+
+#[test]
+fn d11_small_words_lie_at_the_end_of_a_byte_and_padded_readings_keep_a_byte_more() {
+    let told = |value: &Value, what: &str| assert!(format!("{value:?}").contains(what), "{value:?}");
+    told(&Value::u1(1), "raw_value: [1], raw_bit_offset: 7");
+    told(&Value::u2(2), "raw_value: [2], raw_bit_offset: 6");
+    told(&Value::u4(10), "raw_value: [10], raw_bit_offset: 4");
+    let read = |ty: &Final| Value::from_padded_bits(&mut BitIter::new([0xA5].into_iter()), ty).expect("enough bits");
+    told(&read(&Final::u8()), "raw_value: [165, 0], raw_bit_offset: 0");
+    told(&read(&Final::unit()), "raw_value: [0], raw_bit_offset: 0");
+    // By the rules a result starts at bit 0, takes its width rounded up to bytes, and later bytes stay.
+    let mut maker = TableMaker::new();
+    let (nibble, byte) = (maker.word(2).into(), maker.word(3).into());
+    let table = maker.finish();
+    let q = Request { n: 10, node: nibble, out: &[0xFF; 2], ..Request::new(Call::U4, table.lend()) };
+    assert_eq!(rules(&q).out, [0xA0, 0xFF]);
+    let stream = Stream { bytes: &[0xA5], length: 8, position: 0 };
+    let q = Request { stream, node: byte, out: &[0xFF; 2], ..Request::new(Call::FromPaddedBits, table.lend()) };
+    assert_eq!(rules(&q).out, [0xA5, 0xFF]);
+}
+
+#[test]
+fn d12_slips_of_the_text_that_a_reader_of_both_will_meet() {
+    // One word of four bits, written in two ways.
+    assert_eq!((Value::u4(10).to_string(), Word::u4(10).to_string()), ("0xa".to_string(), "0b1010".to_string()));
+    // The maximum that is told is the first n that is refused.
+    assert_eq!(Final::two_two_n(32).unwrap_err().to_string(), "maximum n for 2^(2^n) is 32; got 32");
+    // A call that names another in its panic.
+    std::panic::set_hook(Box::new(|_| {}));
+    let panic = std::panic::catch_unwind(|| Value::u4(16)).expect_err("16 is out of range");
+    assert_eq!(panic.downcast_ref::<String>().expect("a message"), "16 out of range for Value::u2");
+}
+
+#[test]
+#[ignore = "the text walks 2^32 nodes, which takes minutes"]
+fn d12_the_last_word_type_is_shown_with_a_sign() {
+    assert_eq!(Final::two_two_n(31).expect("the last word").to_string(), "2^-2147483648");
+}

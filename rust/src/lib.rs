@@ -61,6 +61,21 @@ pub use tables::Table;
 pub use types::{Facts, Shape};
 pub use word_types::{buffer_width, word_width};
 
+/// The bytes of stack that are enough for any call: a thread with so much may make them all.
+///
+/// The compact codec, [`Table::compact_len`] and [`Table::prune`] go down a type by calling themselves, at most once for
+/// each node on the way, and need it for the deepest tables; every other call takes less than 8 KiB. A thread of the
+/// standard library has four times as much unless it is told otherwise.
+///
+/// ```
+/// use quelomavunt::{samples, Table, STACK_BYTES};
+///
+/// let small = std::thread::Builder::new().stack_size(STACK_BYTES);
+/// let asked = small.spawn(|| Table::from_file(&samples::TABLE_S).map(|table| table.len())).expect("a thread");
+/// assert_eq!(asked.join().expect("no panic"), Ok(10));
+/// ```
+pub const STACK_BYTES: usize = 524_288;
+
 /// The bytes that so many bits take: a record's output must be that long.
 ///
 /// ```

@@ -54,13 +54,19 @@ impl Zoo {
             hollow = zoo.push(2, hollow, hollow);
         }
         assert_eq!(u64::from(hollow), LARGE);
-        zoo.count = zoo.kinds.len() as u64;
-        zoo.groups = vec![0; GROUP_BYTES * zoo.kinds.len()];
-        assert_eq!(raw::fill_facts(&zoo.kinds, &zoo.lefts, &zoo.rights, zoo.count, &mut zoo.groups), 0);
+        zoo.fill();
         zoo
     }
 
-    fn push(&mut self, kind: u8, left: u16, right: u16) -> u16 {
+    /// Counts the nodes and makes their facts.
+    pub fn fill(&mut self) {
+        self.count = self.kinds.len() as u64;
+        self.groups = vec![0; GROUP_BYTES * self.kinds.len()];
+        assert_eq!(raw::fill_facts(&self.kinds, &self.lefts, &self.rights, self.count, &mut self.groups), 0);
+    }
+
+    /// Adds a node.
+    pub fn push(&mut self, kind: u8, left: u16, right: u16) -> u16 {
         self.kinds.push(kind);
         self.lefts.push(left);
         self.rights.push(right);
