@@ -17,3 +17,4 @@ pub mod LayoutCalls
 pub mod LayoutFacts
 pub mod LayoutFills
 pub mod LayoutBytes
+pub mod RungOrder

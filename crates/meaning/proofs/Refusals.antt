@@ -72,7 +72,7 @@ first-holds at-once = this
 first-holds (after f) = other (first-holds f)
 
 -- The numbers never fall, and none is below n.
-unfoldable pub rising : ℕ → List Rung → Bool
+abbrev pub rising : ℕ → List Rung → Bool
 rising n [] = true
 rising n (rung b m p ∷ rs) = leb n m && rising m rs
 
@@ -82,7 +82,6 @@ ordered rs = rising 0 rs
 
 -- Of rungs whose numbers never fall from k on, none that holds has a number below k.
 rising-below : {rs : List Rung} {m q : ℕ} (k : ℕ) → rising k rs ≡ true → Holds rs m q → k ≤ m
-unfolding rising
 rising-below k h (this {n} {rs = rs}) = leb-true k n (and-left (leb k n) (rising n rs) h)
 rising-below k h (other {r = rung b n p} {rs = rs} g) =
     let l : k ≤ n = leb-true k n (and-left (leb k n) (rising n rs) h) in
@@ -90,7 +89,6 @@ rising-below k h (other {r = rung b n p} {rs = rs} g) =
     omega (arith, l, m)
 
 first-smallest : {rs : List Rung} {n p m q : ℕ} (k : ℕ) → rising k rs ≡ true → First rs n p → Holds rs m q → n ≤ m
-unfolding rising
 first-smallest k h (at-once {n}) this = le-of-eq refl
 first-smallest k h (at-once {n} {rs = rs}) (other g) = rising-below n (and-right (leb k n) (rising n rs) h) g
 first-smallest k h (after {m} {rs = rs} f) (other g) = first-smallest m (and-right (leb k m) (rising m rs) h) f g
@@ -102,20 +100,19 @@ smallest-answered rs a n p o h =
     (first-holds f, λ m q g. first-smallest 0 o f g)
 
 -- No rung has the number n.
-unfoldable pub without : ℕ → List Rung → Bool
+abbrev pub without : ℕ → List Rung → Bool
 without n [] = true
 without n (rung b m p ∷ rs) = not (eqb m n) && without n rs
 
 -- So no ladder of them answers it.
 without-unanswered : {rs : List Rung} {n p : ℕ} → without n rs ≡ true → First rs n p → ⊥
-unfolding without
 without-unanswered {n = n} h (at-once {rs = rs}) =
     true≢false (sym (and-left (not (eqb n n)) (without n rs) h) ∙ ap not (eq-eqb n n refl))
 without-unanswered {n = n} h (after {m} {rs = rs} f) = without-unanswered (and-right (not (eqb m n)) (without n rs) h) f
 
 alone-held : {A : Type 0} (rs : List Rung) (b : Bool) (n p : ℕ) (ss : List Rung) (a : A) → without n rs ≡ true → without n ss ≡ true
     → ladder (rs ++ (rung b n p ∷ ss)) a ≡ refused n p → (ladder rs (tt {0}) ≡ accepted (tt {0})) × (b ≡ true)
-unfolding ladder without
+unfolding ladder
 alone-held [] true n p ss a h k e = (refl, refl)
 alone-held [] false n p ss a h k e = absurd (without-unanswered k (answered-first ss a n p e))
 alone-held (rung true m q ∷ rs) b n p ss a h k e = absurd (without-unanswered h (answered-first (rung true m q ∷ rs) a n p e))
