@@ -18,3 +18,5 @@ pub mod LayoutFacts
 pub mod LayoutFills
 pub mod LayoutBytes
 pub mod RungOrder
+pub mod RoomExact
+pub mod EarlyExact

@@ -10,7 +10,7 @@
 --   without                     no rung has this number
 --   answered-alone              a number that one rung alone has is answered exactly if the rungs before it pass and its fact holds
 -- Assumes nothing.
-use Prim.Native.Nat.{ℕ, zero, suc, _≤_, zero-le}
+use Prim.Native.Nat.{ℕ, _≤_}
 use mathlib.Core.Path.{_≡_, refl, ap, sym, _∙_, subst}
 use mathlib.Core.Logic.{_↔_}
 use mathlib.Core.Bool.{Bool, true, false, not, _&&_, true≢false}
@@ -19,7 +19,7 @@ use native.Mathlib.Omega.{arith}
 use native.Mathlib.Nat.{le-of-eq}
 use lib.Dec.{eqb, leb}
 use borrow.Author.Tests.{leb-true, eq-eqb}
-use Rattle.meaning.specs.Ladder.{Answer, refused, accepted, Rung, rung, ladder}
+use Rattle.meaning.specs.Ladder.{refused, accepted, Rung, rung, ladder}
 use Rattle.meaning.proofs.Tests.{and-left, and-right}
 use Rattle.meaning.proofs.Ladders.{accepted-refused, numberOf, placeOf, ladder-pass, ladder-holds}
 
