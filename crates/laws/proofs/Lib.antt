@@ -6,6 +6,7 @@ pub mod CodecRoundTrips
 pub mod RecordPrefixes
 pub mod CodecExact
 pub mod CodecReaders
+pub mod CodecExcluded
 pub mod CutSides
 pub mod CutTrees
 pub mod CutJudged
@@ -18,5 +19,5 @@ pub mod LayoutFacts
 pub mod LayoutFills
 pub mod LayoutBytes
 pub mod RungOrder
-pub mod RoomExact
 pub mod EarlyExact
+pub mod RoomExact
