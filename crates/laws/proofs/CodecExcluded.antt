@@ -58,27 +58,27 @@ unfoldable oneBit : Table
 oneBit = table (0 ∷ 1 ∷ []) (0 ∷ 0 ∷ []) (0 ∷ 0 ∷ []) (groupsOf (columns (0 ∷ 1 ∷ []) (0 ∷ 0 ∷ []) (0 ∷ 0 ∷ [])) 2) 2
 
 -- The bit 1 as a record and as a stream, and an output of one byte that is 0.
-abbrev set : Record
-set = record-of (0x80 ∷ []) 0 1
+abbrev bitRecord : Record
+bitRecord = record-of (0x80 ∷ []) 0 1
 
-abbrev setStream : Stream
-setStream = stream-of (0x80 ∷ []) 8 0
+abbrev bitStream : Stream
+bitStream = stream-of (0x80 ∷ []) 8 0
 
-abbrev clear : List ℕ
-clear = 0 ∷ []
+abbrev zeroByte : List ℕ
+zeroByte = 0 ∷ []
 
 -- Both writers write it, both readers read it and consume one bit.
-writes-one : (toCompactOut oneBit set clear ≡ 0x80 ∷ []) × (toPaddedOut oneBit set clear ≡ 0x80 ∷ [])
+writes-one : (toCompactOut oneBit bitRecord zeroByte ≡ 0x80 ∷ []) × (toPaddedOut oneBit bitRecord zeroByte ≡ 0x80 ∷ [])
 unfolding oneBit groupOf groupsOf low lowBytes factIn least from same bits width size padded tyTo tyAt classOf firstBad entryRight factsRight odd toBits bitsOf value packTo pack written compact ladder recordBits
 writes-one = (refl, refl)
 
-reads-one : (fromCompactCall oneBit setStream 1 clear ≡ accepted 1) × (fromPaddedCall oneBit setStream 1 clear ≡ accepted 1)
+reads-one : (fromCompactCall oneBit bitStream 1 zeroByte ≡ accepted 1) × (fromPaddedCall oneBit bitStream 1 zeroByte ≡ accepted 1)
 unfolding oneBit groupOf groupsOf low lowBytes factIn least from same bits width size padded tyTo tyAt classOf firstBad entryRight factsRight odd toBits bitsOf decodeCompact decodePadded ladder restOf
 reads-one = (refl, refl)
 
-untouched : (w call : Writer) → call oneBit set clear ≡ 0x80 ∷ [] → TouchesNothing w → ¬ WritesAs w call
+untouched : (w call : Writer) → call oneBit bitRecord zeroByte ≡ 0x80 ∷ [] → TouchesNothing w → ¬ WritesAs w call
 untouched w call e still is =
-    let z : _≡_ {A = ℕ} 0 0x80 = ap (λ (o : List ℕ). getD o 0 0) (sym (still oneBit set clear) ∙ is oneBit set clear ∙ e) in omega arith
+    let z : _≡_ {A = ℕ} 0 0x80 = ap (λ (o : List ℕ). getD o 0 0) (sym (still oneBit bitRecord zeroByte) ∙ is oneBit bitRecord zeroByte ∙ e) in omega arith
 
 pub untouched-compact-excluded : (w : Writer) → TouchesNothing w → ¬ WritesAs w toCompactOut
 untouched-compact-excluded w = untouched w toCompactOut (writes-one .0)
@@ -86,10 +86,10 @@ untouched-compact-excluded w = untouched w toCompactOut (writes-one .0)
 pub untouched-padded-excluded : (w : Writer) → TouchesNothing w → ¬ WritesAs w toPaddedOut
 untouched-padded-excluded w = untouched w toPaddedOut (writes-one .1)
 
-refusing : (read call : Reader) → call oneBit setStream 1 clear ≡ accepted 1 → RefusesAll read → ¬ ReadsAs read call
+refusing : (read call : Reader) → call oneBit bitStream 1 zeroByte ≡ accepted 1 → RefusesAll read → ¬ ReadsAs read call
 refusing read call e never is =
-    let r = never oneBit setStream 1 clear in
-    accepted-refused 1 (r .0) (r .1 .0) (sym e ∙ sym (is oneBit setStream 1 clear) ∙ r .1 .1)
+    let r = never oneBit bitStream 1 zeroByte in
+    accepted-refused 1 (r .0) (r .1 .0) (sym e ∙ sym (is oneBit bitStream 1 zeroByte) ∙ r .1 .1)
 
 pub refusing-compact-excluded : (read : Reader) → RefusesAll read → ¬ ReadsAs read fromCompactCall
 refusing-compact-excluded read = refusing read fromCompactCall (reads-one .0)

@@ -4,12 +4,12 @@
 --   ShortRead reads-nine        of a call that reads a stream: which doesn't end early
 --   fill-facts-nine             of `fill_facts`: too few bytes for the groups
 --   read-table-nine             of `read_table`: a column or the groups don't reach the file's count
--- and the law of each call, with the suffix -nine:
---   unit zero left right none some product
---   number (u1 u2 u4) bytes (u8 … u512) array (from_byte_array) join (word_product) buffer ctx8
---   from-range                  whatever is made after these rungs: ctx8 of slices, as `exports` has it
---   to-compact to-padded prune
---   from-compact from-padded word-read (word_from_bits)
+-- and the law of each other call:
+--   unit-nine zero-nine left-nine right-nine none-nine some-nine product-nine
+--   number-nine (u1 u2 u4) bytes-nine (u8 … u512) array-nine (from_byte_array) join-nine (word_product)
+--   buffer-nine ctx8-nine from-range-nine (whatever is made after these rungs: ctx8 of slices, as `exports` has it)
+--   to-compact-nine to-padded-nine prune-nine
+--   from-compact-nine from-padded-nine word-read-nine (word_from_bits)
 -- Assumes nothing.
 use Prim.Native.Nat.{ℕ, _+_, _*_, _<_, _^_}
 use mathlib.Core.Path.{_≡_, refl, sym, ap, _∙_}
@@ -17,7 +17,7 @@ use mathlib.Core.Logic.{_↔_}
 use mathlib.Core.Bool.{Bool, true, false, not, _&&_}
 use mathlib.Core.List.{List, [], _∷_, _++_, append-assoc}
 use lib.ListN.{length}
-use lib.Dec.{eqb, ltb}
+use lib.Dec.{ltb}
 use borrow.Author.Tests.{ltb-true, lt-ltb, leb-false, lt-leb, not-true}
 use Rattle.meaning.specs.Groups.{groupSize}
 use Rattle.meaning.specs.Tables.{Columns, Table, columnsReach, groupsReach}
@@ -32,9 +32,8 @@ use Rattle.meaning.specs.CodecCalls as codecs
 use Rattle.meaning.specs.CodecCalls.{reads}
 use Rattle.meaning.specs.WordCalls as words
 use Rattle.meaning.specs.CutCalls as cuts
-use Rattle.meaning.proofs.Tests.{and-left, and-right, and-both}
 use Rattle.meaning.proofs.Ladders.{ladder-pass, ladder-fails, ladder-parts, ladder-clear}
-use Rattle.meaning.proofs.Refusals.{without, answered-alone}
+use Rattle.meaning.proofs.Refusals.{without, without-both, answered-alone}
 use Rattle.laws.proofs.RungOrder.{entriesFilled, fileRead}
 
 -- The other rungs pass, and the output is shorter than the bits v need.
@@ -62,7 +61,7 @@ reads-nine rs s d out w =
     let eight = rung (isEarly d) 8 0 ∷ [] in
     let next = s .position + consumed d in
     let same = ap (λ (x : List Rung). ladder x next) (append-assoc rs eight (roomFor (recordOf d) out)) in
-    let a = answered-alone (rs ++ eight) (ltb (length out) (room (length (recordOf d)))) 9 0 [] next (and-eight rs w) refl in (
+    let a = answered-alone (rs ++ eight) (ltb (length out) (room (length (recordOf d)))) 9 0 [] next (without-both 9 rs eight w refl) refl in (
       λ e.
           let h = a .0 (same ∙ e) in
           let parts = ladder-parts rs eight (tt {0}) (tt {0}) (tt {0}) (h .0) in
@@ -78,12 +77,6 @@ reads-nine rs s d out w =
             lt-ltb (length out) (room (length (recordOf d))) (f .too-short),
           ),
     )
-  where
-    and-eight : (qs : List Rung) → without 9 qs ≡ true → without 9 (qs ++ (rung (isEarly d) 8 0 ∷ [])) ≡ true
-    and-eight [] h = refl
-    and-eight (rung b m p ∷ qs) h =
-        and-both (not (eqb m 9)) (without 9 (qs ++ (rung (isEarly d) 8 0 ∷ []))) (and-left (not (eqb m 9)) (without 9 qs) h)
-        (and-eight qs (and-right (not (eqb m 9)) (without 9 qs) h))
 
 pub fill-facts-nine : (c : Columns) (n : ℕ) (gs : List ℕ)
     → (types.fillFactsCall c n gs ≡ refused 9 0)

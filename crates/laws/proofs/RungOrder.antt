@@ -7,14 +7,15 @@
 --   asked reading               the rungs of a question about types; of a reader
 --   entriesFilled groupsFilled  the rungs of `fill_facts`: 1, and 9
 --   fileRead columnsRead        the rungs of `read_table`: 1, and 9
--- and the law of each call, with the suffix -order:
---   read-table fill-facts check-table
---   facts-of same-type is-unit is-empty type-as-sum type-as-product pad-left pad-right as-word word-width buffer-width is-buffer8 is-ctx8
---   as-left as-right as-product equal compare compact-len padded-len
---   unit left right product none some zero
---   number (u1 u2 u4) bytes (u8 … u512) array (from_byte_array) join (word_product) word-read (word_from_bits) buffer ctx8
---   from-range                  whatever is made after these rungs: ctx8 of slices, as `exports` has it
---   from-compact from-padded to-compact to-padded prune
+-- and the law of each call:
+--   read-table-order fill-facts-order check-table-order
+--   facts-of-order same-type-order is-unit-order is-empty-order type-as-sum-order type-as-product-order pad-left-order pad-right-order
+--   as-word-order word-width-order buffer-width-order is-buffer8-order is-ctx8-order
+--   as-left-order as-right-order as-product-order equal-order compare-order compact-len-order padded-len-order
+--   unit-order left-order right-order product-order none-order some-order zero-order
+--   number-order (u1 u2 u4) bytes-order (u8 … u512) array-order (from_byte_array) join-order (word_product) word-read-order (word_from_bits)
+--   buffer-order ctx8-order from-range-order (whatever is made after these rungs: ctx8 of slices, as `exports` has it)
+--   from-compact-order from-padded-order to-compact-order to-padded-order prune-order
 -- Assumes nothing.
 use Prim.Native.Nat.{ℕ, _≤_, _^_}
 use mathlib.Core.Path.{_≡_, refl, sym, _∙_}

@@ -7,7 +7,7 @@
 --   Holds first-holds           some rung with this number and place holds; the first that holds is one
 --   rising ordered              the numbers never fall, from n on; from the beginning
 --   smallest-answered           where they never fall, the number answered is the smallest of all rungs that hold
---   without                     no rung has this number
+--   without without-both        no rung has this number; of two lists, neither has a rung that has it
 --   answered-alone              a number that one rung alone has is answered exactly if the rungs before it pass and its fact holds
 -- Assumes nothing.
 use Prim.Native.Nat.{ℕ, _≤_}
@@ -20,7 +20,7 @@ use native.Mathlib.Nat.{le-of-eq}
 use lib.Dec.{eqb, leb}
 use borrow.Author.Tests.{leb-true, eq-eqb}
 use Rattle.meaning.specs.Ladder.{refused, accepted, Rung, rung, ladder}
-use Rattle.meaning.proofs.Tests.{and-left, and-right}
+use Rattle.meaning.proofs.Tests.{and-left, and-right, and-both}
 use Rattle.meaning.proofs.Ladders.{accepted-refused, numberOf, placeOf, ladder-pass, ladder-holds}
 
 -- First rs n p: a rung of rs with the number n and the place p holds, and none before it does.
@@ -104,7 +104,13 @@ abbrev pub without : ℕ → List Rung → Bool
 without n [] = true
 without n (rung b m p ∷ rs) = not (eqb m n) && without n rs
 
--- So no ladder of them answers it.
+pub without-both : (n : ℕ) (rs ss : List Rung) → without n rs ≡ true → without n ss ≡ true → without n (rs ++ ss) ≡ true
+without-both n [] ss h k = k
+without-both n (rung b m p ∷ rs) ss h k =
+    and-both (not (eqb m n)) (without n (rs ++ ss)) (and-left (not (eqb m n)) (without n rs) h)
+    (without-both n rs ss (and-right (not (eqb m n)) (without n rs) h) k)
+
+-- No ladder of rungs without a number answers it.
 without-unanswered : {rs : List Rung} {n p : ℕ} → without n rs ≡ true → First rs n p → ⊥
 without-unanswered {n = n} h (at-once {rs = rs}) =
     true≢false (sym (and-left (not (eqb n n)) (without n rs) h) ∙ ap not (eq-eqb n n refl))
