@@ -6,6 +6,7 @@ pub mod CodecRoundTrips
 pub mod RecordPrefixes
 pub mod CodecExact
 pub mod CodecReaders
+pub mod CodecExcluded
 pub mod CutSides
 pub mod CutTrees
 pub mod CutJudged
@@ -17,3 +18,6 @@ pub mod LayoutCalls
 pub mod LayoutFacts
 pub mod LayoutFills
 pub mod LayoutBytes
+pub mod RungOrder
+pub mod EarlyExact
+pub mod RoomExact

@@ -10,6 +10,7 @@ pub mod Groups
 pub mod Trees
 pub mod GroupLaws
 pub mod Ladders
+pub mod Refusals
 pub mod Sounds
 pub mod GroupBytes
 pub mod Records
