@@ -10,3 +10,4 @@ pub mod ReadBack
 pub mod Joins
 pub mod Halves
 pub mod StateParts
+pub mod OwnBits
