@@ -2,6 +2,8 @@
 pub mod Lent
 pub mod Made
 pub mod Nodes
+pub mod OwnBits
+pub mod OwnStream
 pub mod Passed
 pub mod Passes
 pub mod Read

@@ -8,7 +8,7 @@
 --   PaddedGot padded-got            the same of padded reading
 --   compact-reads padded-reads      a record that begins the stream is read, where there is room
 --   compact-accepted-own padded-accepted-own    an accepted reading depends on the bits that it consumed alone
---   compact-refused-own padded-refused-own      a refusal with 8 on those from the position to the length
+--   compact-refused-own padded-refused-own      a refusal, with 8 or 9, on those from the position to the length
 --   unpadded-read                   no padding: both readers answer and write the same
 -- Assumes nothing.
 use mathlib.Core.Path.{_≡_, refl, sym, ap, _∙_}
@@ -35,6 +35,7 @@ use Rattle.checked.proofs.Passed.{stream-passed}
 use Rattle.checked.proofs.Passes.{stream-passes}
 use Rattle.checked.proofs.Read.{after, done, AcceptedRead, accepts}
 use Rattle.checked.proofs.Read.{early as ends-early}
+use Rattle.checked.proofs.OwnStream.{accepted-own, refused-own}
 use Rattle.laws.proofs.RecordPlain.{plain-length}
 use Rattle.laws.proofs.RecordPrefixes.{Begins, compact-begins-read, padded-begins-read}
 use Rattle.laws.proofs.CodecRoundTrips.{compact-read-write, padded-read-write}
@@ -207,51 +208,30 @@ module _ (t : Table) (s : Stream) (node : ℕ) (out : List ℕ) where
 
   -- Another stream.
   module _ (s′ : Stream) (w : Streamed t s′ node) where
-    own : (d d′ : Decoded) (next : ℕ) → reads (readRungs t s node) s d out ≡ accepted next
-        → ((v : List Bool) (n : ℕ) → d ≡ decoded v n → n ≡ next - s .position → d′ ≡ decoded v n)
-        → (reads (readRungs t s′ node) s′ d′ out ≡ accepted (s′ .position + (next - s .position)))
-        × (readOut (readRungs t s′ node) s′ d′ out ≡ readOut (readRungs t s node) s d out)
-    own d d′ next h g =
-        let f = taken t s node d out next h in
-        let n : consumed d ≡ next - s .position = omega (arith, f .ends) in
-        let e = g (recordOf d) (consumed d) (accepted-whole t s node d out next h) n in
-        let r : recordOf d′ ≡ recordOf d = ap recordOf e in
-        let got =
-        done (readRungs t s′ node) s′ d′ out (stream-passes t s′ node w) (ap isEarly e) (omega (arith, f .roomy, ap length r))
-        (s′ .position + (next - s .position))
-        (ap (λ (k : ℕ). s′ .position + k) (sym n ∙ sym (ap consumed e)))
-        (written (recordOf d′) out)
-        refl in
-        (sym (got .0), sym (got .1) ∙ ap (λ (v : List Bool). written v out) r ∙ sym (f .output))
-
     pub compact-accepted-own : (next : ℕ) → fromCompactCall t s node out ≡ accepted next
         → take (next - s .position) (restOf s′) ≡ take (next - s .position) (restOf s)
         → (fromCompactCall t s′ node out ≡ accepted (s′ .position + (next - s .position)))
         × (fromCompactOut t s′ node out ≡ fromCompactOut t s node out)
     compact-accepted-own next h e =
-        own (compactIn t s node) (compactIn t s′ node) next h
-        (λ v n d k.
-        compact-own-bits (typeAt t node) (restOf s) (restOf s′) v n d
-        (ap (λ (i : ℕ). take i (restOf s′)) k ∙ e ∙ ap (λ (i : ℕ). take i (restOf s)) (sym k)))
+        accepted-own (decodeCompact (typeAt t node)) (readRungs t s node) (readRungs t s′ node) [] s s′ out (stream-passes t s′ node w)
+        (compact-own-bits (typeAt t node)) next h e
 
     pub padded-accepted-own : (next : ℕ) → fromPaddedCall t s node out ≡ accepted next
         → take (next - s .position) (restOf s′) ≡ take (next - s .position) (restOf s)
         → (fromPaddedCall t s′ node out ≡ accepted (s′ .position + (next - s .position)))
         × (fromPaddedOut t s′ node out ≡ fromPaddedOut t s node out)
     padded-accepted-own next h e =
-        own (paddedIn t s node) (paddedIn t s′ node) next h
-        (λ v n d k.
-        padded-own-bits (typeAt t node) (restOf s) (restOf s′) v n d
-        (ap (λ (i : ℕ). take i (restOf s′)) k ∙ e ∙ ap (λ (i : ℕ). take i (restOf s)) (sym k)))
+        accepted-own (decodePadded (typeAt t node)) (readRungs t s node) (readRungs t s′ node) [] s s′ out (stream-passes t s′ node w)
+        (padded-own-bits (typeAt t node)) next h e
 
-    pub compact-refused-own : Streamed t s node → fromCompactCall t s node out ≡ refused 8 0 → restOf s′ ≡ restOf s
-        → fromCompactCall t s′ node out ≡ refused 8 0
-    compact-refused-own v h e =
-        eight-early t s′ node (compactIn t s′ node) out w .1
-        (ap (decodeCompact (typeAt t node)) e ∙ eight-early t s node (compactIn t s node) out v .0 h)
+    pub compact-refused-own : Streamed t s node → (n p : ℕ) → fromCompactCall t s node out ≡ refused n p → restOf s′ ≡ restOf s
+        → (fromCompactCall t s′ node out ≡ refused n p) × (fromCompactOut t s′ node out ≡ out)
+    compact-refused-own v n p h e =
+        refused-own (decodeCompact (typeAt t node)) (readRungs t s node) (readRungs t s′ node) [] s s′ out (stream-passes t s′ node w)
+        (stream-passes t s node v) n p h e
 
-    pub padded-refused-own : Streamed t s node → fromPaddedCall t s node out ≡ refused 8 0 → restOf s′ ≡ restOf s
-        → fromPaddedCall t s′ node out ≡ refused 8 0
-    padded-refused-own v h e =
-        eight-early t s′ node (paddedIn t s′ node) out w .1
-        (ap (decodePadded (typeAt t node)) e ∙ eight-early t s node (paddedIn t s node) out v .0 h)
+    pub padded-refused-own : Streamed t s node → (n p : ℕ) → fromPaddedCall t s node out ≡ refused n p → restOf s′ ≡ restOf s
+        → (fromPaddedCall t s′ node out ≡ refused n p) × (fromPaddedOut t s′ node out ≡ out)
+    padded-refused-own v n p h e =
+        refused-own (decodePadded (typeAt t node)) (readRungs t s node) (readRungs t s′ node) [] s s′ out (stream-passes t s′ node w)
+        (stream-passes t s node v) n p h e

@@ -5,10 +5,10 @@
 --   WrittenOut                      what an accepted writer has written
 --   compact-wrote padded-wrote      an accepted writer has written the compact bits, or the record's own
 --   compact-writes padded-writes    a record is written, where there is room
---   compact-own padded-own length-own   answer and output depend on the record's own bits alone
+--   compact-own padded-own length-own   answer and output depend on the record's own bits alone (`Agree` of `checked/proofs/OwnBits`)
 --   unpadded-write                  no padding: both writers answer and write the same
 -- Assumes nothing.
-use mathlib.Core.Path.{_≡_, refl, sym, ap, ap₂, _∙_}
+use mathlib.Core.Path.{_≡_, refl, sym, ap}
 use mathlib.Core.Bool.{Bool, false}
 use mathlib.Core.List.{List, [], _∷_}
 use Prim.Native.Nat.{ℕ, _≤_, _<_}
@@ -18,17 +18,17 @@ use Rattle.meaning.specs.Types.{width, padded, top}
 use Rattle.meaning.specs.Tables.{Table}
 use Rattle.meaning.specs.Bits.{room, written}
 use Rattle.meaning.specs.Records.{compact}
-use Rattle.meaning.specs.Ladder.{Answer, accepted, ladder, kept, Record, record-of, typeAt, typeOf, recordBits, roomFor, makes, made}
+use Rattle.meaning.specs.Ladder.{accepted, ladder, Record, typeAt, typeOf, recordBits, makes, made}
 use Rattle.meaning.specs.RecordCalls.{compactLenCall}
 use Rattle.meaning.specs.CodecCalls.{writeRungs, compactBits, toCompactCall, toCompactOut, toPaddedCall, toPaddedOut}
 use Rattle.meaning.proofs.Types.{width-bits}
 use Rattle.meaning.proofs.Records.{unpadded-compact}
-use Rattle.meaning.proofs.Ladders.{ladder-pass}
 use Rattle.checked.specs.Passed.{Held}
 use Rattle.checked.proofs.Passed.{handed-passed}
-use Rattle.checked.proofs.Passes.{held-passes, handed-accepts}
+use Rattle.checked.proofs.Passes.{held-passes}
 use Rattle.checked.proofs.Made.{done, accepts}
 use Rattle.checked.proofs.Lent.{own-length}
+use Rattle.checked.proofs.OwnBits.{Agree, handed-own, made-own}
 
 -- What a writer of the bits v has written.
 pub record WrittenOut (t : Table) (r : Record) (v : List Bool) (out : List ℕ) (n : ℕ) : Type 0 where
@@ -70,42 +70,19 @@ module _ (t : Table) (r : Record) (out : List ℕ) where
       let e = unpadded-compact (typeOf t r) (recordBits t r) p low (own-length t r w) in
       (ap (λ (v : List Bool). makes (writeRungs t r) v out) e, ap (λ (v : List Bool). made (writeRungs t r) v out) e)
 
--- After the first rungs a writer asks for room only.
-rest : (t : Table) (r : Record) (v : List Bool) (out : List ℕ) → Held t r → makes (writeRungs t r) v out ≡ ladder (roomFor v out) (length v)
-rest t r v out w = ladder-pass (writeRungs t r) (roomFor v out) (tt {0}) (tt {0}) (length v) (held-passes t r w)
+-- Two records that agree, wherever they lie.
+module _ (t : Table) (r s : Record) (g : Agree t r s) where
+  same-rungs : writeRungs t r ≡ writeRungs t s
+  same-rungs = handed-own t (r ∷ []) (s ∷ []) [] (g, tt)
 
--- Two records of one type, wherever they lie.
-module _ (t : Table) (bytes bytes′ : List ℕ) (offset offset′ node : ℕ) (w : Held t (record-of bytes offset node))
-    (w′ : Held t (record-of bytes′ offset′ node))
-    (e : recordBits t (record-of bytes offset node) ≡ recordBits t (record-of bytes′ offset′ node)) where
-  abbrev one : Record
-  one = record-of bytes offset node
+  same-compact : compactBits t r ≡ compactBits t s
+  same-compact = λ i. compact (typeAt t (g .nodes i)) (g .own i)
 
-  abbrev other : Record
-  other = record-of bytes′ offset′ node
+  pub compact-own : (out : List ℕ) → (toCompactCall t r out ≡ toCompactCall t s out) × (toCompactOut t r out ≡ toCompactOut t s out)
+  compact-own out = made-own (writeRungs t r) (writeRungs t s) (compactBits t r) (compactBits t s) out same-rungs same-compact
 
-  own : (v v′ : List Bool) (out : List ℕ) → v ≡ v′
-      → (makes (writeRungs t one) v out ≡ makes (writeRungs t other) v′ out)
-      × (made (writeRungs t one) v out ≡ made (writeRungs t other) v′ out)
-  own v v′ out f =
-      let a = rest t one v out w ∙ ap (λ (u : List Bool). ladder (roomFor u out) (length u)) f ∙ sym (rest t other v′ out w′) in
-      (a, ap₂ (λ (x : Answer ℕ) (u : List Bool). kept x out (written u out)) a f)
+  pub padded-own : (out : List ℕ) → (toPaddedCall t r out ≡ toPaddedCall t s out) × (toPaddedOut t r out ≡ toPaddedOut t s out)
+  padded-own out = made-own (writeRungs t r) (writeRungs t s) (recordBits t r) (recordBits t s) out same-rungs (g .own)
 
-  same-compact : compactBits t one ≡ compactBits t other
-  same-compact = ap (compact (typeAt t node)) e
-
-  pub compact-own : (out : List ℕ)
-      → (toCompactCall t (record-of bytes offset node) out ≡ toCompactCall t (record-of bytes′ offset′ node) out)
-      × (toCompactOut t (record-of bytes offset node) out ≡ toCompactOut t (record-of bytes′ offset′ node) out)
-  compact-own out = own (compactBits t one) (compactBits t other) out same-compact
-
-  pub padded-own : (out : List ℕ)
-      → (toPaddedCall t (record-of bytes offset node) out ≡ toPaddedCall t (record-of bytes′ offset′ node) out)
-      × (toPaddedOut t (record-of bytes offset node) out ≡ toPaddedOut t (record-of bytes′ offset′ node) out)
-  padded-own out = own (recordBits t one) (recordBits t other) out e
-
-  pub length-own : compactLenCall t (record-of bytes offset node) ≡ compactLenCall t (record-of bytes′ offset′ node)
-  length-own =
-      handed-accepts t (w .named .sound) (one ∷ []) [] (length (compactBits t one)) (w, tt) tt
-      ∙ ap (λ (v : List Bool). accepted (length v)) same-compact
-      ∙ sym (handed-accepts t (w′ .named .sound) (other ∷ []) [] (length (compactBits t other)) (w′, tt) tt)
+  pub length-own : compactLenCall t r ≡ compactLenCall t s
+  length-own = λ i. ladder (same-rungs i) (length (same-compact i))

@@ -10,7 +10,8 @@
 --   prune-unit                  a cut to unit always works, and writes nothing
 --   prune-plain                 a record with zero padding stays one
 --   prune-compact               records with the same compact bits are accepted alike, with the same compact bits
---   prune-own-bits              answer and output depend on the record's own bits alone
+--   prune-alike                 records of one type with the same own bits are cut alike, within the limits
+--   prune-own-bits              answer and output depend on the record's own bits alone (`Agree` of `checked/proofs/OwnBits`)
 -- Assumes nothing.
 use mathlib.Core.Path.{_≡_, refl, ap, ap₂, sym, _∙_, subst}
 use mathlib.Core.Bool.{Bool, true}
@@ -34,6 +35,7 @@ use Rattle.checked.proofs.Passes.{handed-passes}
 use Rattle.checked.proofs.Made.{Accepted, accepts, done, handed-on, made-length, made-record}
 use Rattle.checked.proofs.Shaped.{shape-right, shape-accepted}
 use Rattle.checked.proofs.Lent.{own-length}
+use Rattle.checked.proofs.OwnBits.{Agree, results-own}
 use Rattle.laws.proofs.CutRules.{cut-same, cut-unit}
 use Rattle.laws.proofs.CutLaws.{cut-cut, cut-plain, compact-cut}
 use Rattle.prune_sides.proofs.CutSteps.{cut-is}
@@ -147,14 +149,27 @@ module _ (t : Table) (r s : Record) (target : ℕ) (alike : typeOf t s ≡ typeO
       (ap (λ (a : Ty). cut (typeAt t target) a (recordBits t s)) alike ∙ z .1) l in
       (c .0 ∙ ap accepted (sym (prune-width t r target out n h)), ap (compact (typeAt t target)) (c .1) ∙ z .2)
 
-  -- Within the limits a call depends on the record's own bits alone, whatever surrounds them.
-  pub prune-own-bits : (out : List ℕ) → Held t r → Held t s → Named t target → recordBits t s ≡ recordBits t r
+  -- Within the limits records of one type with the same own bits are cut alike, though their nodes differ.
+  pub prune-alike : (out : List ℕ) → Held t r → Held t s → Named t target → recordBits t s ≡ recordBits t r
       → (pruneCall t s target out ≡ pruneCall t r target out) × (pruneOut t s target out ≡ pruneOut t r target out)
-  prune-own-bits out v w g e =
+  prune-alike out v w g e =
       let o : cutOf t s target ≡ cutOf t r target = ap₂ (λ (a : Ty) (x : List Bool). cut (typeAt t target) a x) alike e in
       let a = rests t s target out w g in
       let b = rests t r target out v g in
       (sym (a .0) ∙ ap (rest out) o ∙ b .0, sym (a .1) ∙ ap (restOut out) o ∙ b .1)
+
+-- Two records that agree, wherever they lie.
+module _ (t : Table) (r s : Record) (g : Agree t r s) (target : ℕ) (out : List ℕ) where
+  same-cut : cutOf t r target ≡ cutOf t s target
+  same-cut = λ i. cut (typeAt t target) (typeAt t (g .nodes i)) (g .own i)
+
+  pub prune-own-bits : (pruneCall t r target out ≡ pruneCall t s target out) × (pruneOut t r target out ≡ pruneOut t s target out)
+  prune-own-bits =
+      results-own t (r ∷ []) (s ∷ []) (g, tt) target (isCut (cutOf t r target)) (isCut (cutOf t s target)) (cutBits (cutOf t r target))
+      (cutBits (cutOf t s target))
+      out
+      (ap isCut same-cut)
+      (ap cutBits same-cut)
 
 -- Demand 3. The record r cut to a in `first`, what came of it to b in `second`; straight to b in `straight`, which has room.
 module _ (t : Table) (r : Record) (a b : ℕ) (first second straight : List ℕ) (n m : ℕ)

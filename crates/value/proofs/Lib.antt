@@ -1,6 +1,7 @@
 -- The laws of the calls on records.
 pub mod Equality
 pub mod OwnBits
+pub mod OwnViews
 pub mod RoundTrips
 pub mod SideTypes
 pub mod SubViews

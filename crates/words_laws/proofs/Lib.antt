@@ -1,4 +1,5 @@
--- Laws of records written piece by piece, of the segments of a buffer and the parts of a hash state, and of what the calls' records hold.
+-- Laws of records written piece by piece, of the segments of a buffer and the parts of a hash state, of what the calls' records hold and of
+-- the bits that the calls read.
 pub mod Pieces
 pub mod Parts
 pub mod Hashed
@@ -10,3 +11,4 @@ pub mod ReadBack
 pub mod Joins
 pub mod Halves
 pub mod StateParts
+pub mod OwnBits
