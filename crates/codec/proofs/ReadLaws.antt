@@ -3,7 +3,6 @@
 -- Out for the output.
 --
 --   at-zero                         the record that a call has written, at bit 0 of its output
---   compact-eight padded-eight      8 is answered exactly if no record of the type begins the stream
 --   CompactGot compact-got          what an accepted compact reading has read and consumed
 --   PaddedGot padded-got            the same of padded reading
 --   compact-reads padded-reads      a record that begins the stream is read, where there is room
@@ -12,61 +11,31 @@
 --   unpadded-read                   no padding: both readers answer and write the same
 -- Assumes nothing.
 use mathlib.Core.Path.{_≡_, refl, sym, ap, _∙_}
-use mathlib.Core.Logic.{_↔_}
-use mathlib.Core.Bool.{Bool, true, false}
-use mathlib.Core.List.{List, [], _∷_, _++_}
+use mathlib.Core.Bool.{Bool, false}
+use mathlib.Core.List.{List, [], _++_}
 use Prim.Native.Nat.{ℕ, _+_, _-_, _*_, _≤_, _<_}
 use native.Mathlib.Omega.{arith}
-use lib.Dec.{ltb}
 use lib.ListN.{length, take, drop}
 use lib.Seq.{take-at}
 use Rattle.meaning.specs.Types.{bits, width, padded, top}
 use Rattle.meaning.specs.Tables.{Table}
 use Rattle.meaning.specs.Bits.{bitsOf, zeros, room, written}
 use Rattle.meaning.specs.Records.{compact, plain}
-use Rattle.meaning.specs.Codecs.{Decoded, early, decoded, decodeCompact, decodePadded, isEarly, recordOf, consumed}
-use Rattle.meaning.specs.Ladder.{refused, accepted, rung, ladder, Record, Stream, record-of, typeAt, recordBits, restOf, roomFor}
+use Rattle.meaning.specs.Codecs.{Decoded, decoded, decodeCompact, decodePadded, isEarly, recordOf, consumed}
+use Rattle.meaning.specs.Ladder.{refused, accepted, Record, Stream, record-of, typeAt, recordBits, restOf}
 use Rattle.meaning.specs.CodecCalls.{reads, readOut, readRungs, compactIn, paddedIn, fromCompactCall, fromCompactOut, fromPaddedCall, fromPaddedOut}
 use Rattle.meaning.proofs.Types.{width-bits}
-use Rattle.meaning.proofs.Ladders.{accepted-refused, numberOf, ladder-fails}
 use Rattle.bits.proofs.Packed.{bitsOf-written, length-written}
 use Rattle.checked.specs.Passed.{Held, Streamed}
 use Rattle.checked.proofs.Passed.{stream-passed}
 use Rattle.checked.proofs.Passes.{stream-passes}
-use Rattle.checked.proofs.Read.{after, done, AcceptedRead, accepts}
-use Rattle.checked.proofs.Read.{early as ends-early}
+use Rattle.checked.proofs.Read.{done, AcceptedRead, accepts}
 use Rattle.checked.proofs.OwnStream.{accepted-own, refused-own}
 use Rattle.laws.proofs.RecordPlain.{plain-length}
 use Rattle.laws.proofs.RecordPrefixes.{Begins, compact-begins-read, padded-begins-read}
 use Rattle.laws.proofs.CodecRoundTrips.{compact-read-write, padded-read-write}
-use Rattle.laws.proofs.CodecExact.{early-test, decoded-test, compact-early-exact, padded-early-exact, compact-own-bits, padded-own-bits}
+use Rattle.laws.proofs.CodecExact.{decoded-test, compact-own-bits, padded-own-bits}
 use Rattle.laws.proofs.CodecReaders.{unpadded-same-reading}
-
--- A refusal with 8 is an early end: 9 is another number.
-nine-alone : (v : List Bool) (out : List ℕ) (a : ℕ) → ladder (roomFor v out) a ≡ refused 8 0 → ⊥
-unfolding ladder
-nine-alone v out a h = go (ltb (length out) (room (length v))) h
-  where
-    go : (b : Bool) → ladder (rung b 9 0 ∷ []) a ≡ refused 8 0 → ⊥
-    go true e = let z : _≡_ {A = ℕ} 9 8 = ap numberOf e in omega arith
-    go false e = accepted-refused a 8 0 e
-
-eight-early : (t : Table) (s : Stream) (node : ℕ) (d : Decoded) (out : List ℕ) → Streamed t s node
-    → (reads (readRungs t s node) s d out ≡ refused 8 0) ↔ (d ≡ early)
-eight-early t s node d out w = (
-  λ h. early-test d .0 (go (isEarly d) refl (sym (after (readRungs t s node) s d out passes) ∙ h)),
-  λ e. sym (ends-early (readRungs t s node) s d out passes (early-test d .1 e) .0),
-)
-  where
-    passes : ladder (readRungs t s node) (tt {0}) ≡ accepted (tt {0})
-    passes = stream-passes t s node w
-
-    go : (b : Bool) → isEarly d ≡ b → ladder (rung (isEarly d) 8 0 ∷ roomFor (recordOf d) out) (s .position + consumed d) ≡ refused 8 0 → isEarly d ≡ true
-    go true e h = e
-    go false e h =
-        absurd
-        (nine-alone (recordOf d) out (s .position + consumed d)
-        (sym (ladder-fails (isEarly d) 8 0 (roomFor (recordOf d) out) (s .position + consumed d) e) ∙ h))
 
 -- Bits that were written are those of a record at bit 0.
 pub written-bits : (t : Table) (node : ℕ) (v : List Bool) (out : List ℕ) → length v ≡ bits (typeAt t node)
@@ -117,22 +86,6 @@ module _ (t : Table) (s : Stream) (node : ℕ) (d : Decoded) (out : List ℕ) wh
       (sym got, accepted-bits (s .position + n) (sym got) (ap length rec ∙ l) ∙ rec)
 
 module _ (t : Table) (s : Stream) (node : ℕ) (out : List ℕ) where
-  pub compact-eight : Streamed t s node
-      → (fromCompactCall t s node out ≡ refused 8 0)
-      ↔ ((v : List Bool) → length v ≡ bits (typeAt t node) → Begins (compact (typeAt t node) v) (restOf s) → ⊥)
-  compact-eight w =
-      let e = eight-early t s node (compactIn t s node) out w in
-      let x = compact-early-exact (typeAt t node) (restOf s) in
-      (λ h. x .0 (e .0 h), λ f. e .1 (x .1 f))
-
-  pub padded-eight : Streamed t s node
-      → (fromPaddedCall t s node out ≡ refused 8 0)
-      ↔ ((v : List Bool) → length v ≡ bits (typeAt t node) → Begins v (restOf s) → ⊥)
-  padded-eight w =
-      let e = eight-early t s node (paddedIn t s node) out w in
-      let x = padded-early-exact (typeAt t node) (restOf s) in
-      (λ h. x .0 (e .0 h), λ f. e .1 (x .1 f))
-
   -- What an accepted compact reading has read, as the output holds it, and what it has consumed.
   pub record CompactGot (next : ℕ) : Type 0 where
     pub streamed : Streamed t s node
