@@ -19,11 +19,9 @@ use Rattle.answers.proofs.Settled.{flag-settled, spot-settled as seen-settled, 
 use Rattle.view.specs.declared.View.{View}
 use Rattle.view.specs.declared.Sub.{Sub}
 use Rattle.view.specs.declared.Subs.{Subs}
-use Rattle.view.proofs.bit_of as bit-of
 use Rattle.view.proofs.new as new
 use Rattle.view.proofs.bytes as bytes
 use Rattle.view.proofs.spot as spot
-use Rattle.view.proofs.first_bit as first-bit
 use Rattle.view.proofs.is_unit as is-unit
 use Rattle.view.proofs.as_left as as-left
 use Rattle.view.proofs.as_right as as-right
@@ -49,9 +47,6 @@ same-subs : (r s : Subs) {bytes : RefT (List ℕ)} {answer : Answer records.Spot
 same-subs r s p q = λ i. record { bytes = same (p .0) (q .0) i; at = spots-settled (r .at) (s .at) (same (p .1) (q .1)) i }
 
 module _ {M : Type 1} (𝓤 : URA M) (H : Heap 𝓤) (A : Atoms 𝓤) (mem : Memory → SProp 𝓤) (run : Routine → Fun 𝓤) where
-  pub bit-of-settled : Settled 𝓤 bit-of.ended (bit-of.clauses 𝓤 H A mem run)
-  bit-of-settled κs a g h r s x y = one 𝓤 (λ p q. (same p q, refl))
-
   pub new-settled : Settled 𝓤 new.ended (new.clauses 𝓤 H A mem run)
   new-settled κs a g h r s x y = one 𝓤 (λ p q. (same-view r s p q, refl))
 
@@ -60,9 +55,6 @@ module _ {M : Type 1} (𝓤 : URA M) (H : Heap 𝓤) (A : Atoms 𝓤) (mem : Mem
 
   pub spot-settled : Settled 𝓤 spot.ended (spot.clauses 𝓤 H A mem run)
   spot-settled κs a g h r s x y = one 𝓤 (λ p q. (same-spot r s p q, refl))
-
-  pub first-bit-settled : Settled 𝓤 first-bit.ended (first-bit.clauses 𝓤 H A mem run)
-  first-bit-settled κs a g h r s x y = one 𝓤 (λ p q. (same p q, refl))
 
   pub is-unit-settled : Settled 𝓤 is-unit.ended (is-unit.clauses 𝓤 H A mem run)
   is-unit-settled κs a g h r s x y = one 𝓤 (answered flagOf flag-settled refl r s)

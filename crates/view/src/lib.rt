@@ -11,7 +11,6 @@ ghost use Rattle.meaning.specs.Ladder.{record-of};
 ghost use Rattle.meaning.specs.RecordCalls as calls;
 ghost use Rattle.meaning.specs.TypeCalls.{isUnitCall};
 ghost use Rattle.answers.specs.Verdicts.{spotOf, spotsOf, flagOf};
-ghost use Rattle.view.specs.Heads.{firstBit};
 
 // A record: the caller's bytes, by reference, a bit offset and a node.
 pub struct View<'a> {
@@ -30,22 +29,6 @@ pub struct Sub<'a> {
 pub struct Subs<'a> {
     pub bytes: &'a [u8],
     pub at: SpotsAnswer,
-}
-
-// A bit, or none.
-pub enum Bit {
-    Is(bool),
-    Nothing,
-}
-
-// The bit of bytes at an offset; nothing past their end.
-pub fn bit_of(bytes: &[u8], offset: usize) -> Bit
-    ensures { λ r. ⌜ r ≡ firstBit (now (bytes .entry)) offset ⌝ }
-{
-    if bytes.len() <= offset / 8 {
-        return Bit::Nothing;
-    }
-    Bit::Is(bits::bit_at(bytes, offset))
 }
 
 // The view of a record.
@@ -74,13 +57,6 @@ pub fn spot<'a>(v: View<'a>) -> Spot
         offset: v.offset,
         node: v.node,
     }
-}
-
-// The bit at which a view stands; nothing past the end of its bytes.
-pub fn first_bit<'a>(v: View<'a>) -> Bit
-    ensures { λ r. ⌜ r ≡ firstBit (now (v .entry .bytes)) (v .entry .offset) ⌝ }
-{
-    bit_of(v.bytes, v.offset)
 }
 
 // Whether the type is unit: a question on the type alone.

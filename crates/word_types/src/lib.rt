@@ -26,7 +26,7 @@ pub fn as_word(
         return Count::Refused(r);
     }
     let n = shapes::word_of(kinds, lefts, rights, groups, count, node);
-    if 32 <= n {
+    if shapes::NO_WORD <= n {
         return Count::Refused(answers::WRONG_SHAPE);
     }
     Count::Is(n)

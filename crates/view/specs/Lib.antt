@@ -1,2 +1,0 @@
--- What the contracts of `view` cite beside the definitions of `meaning`.
-pub mod Heads
