@@ -11,6 +11,8 @@ use std::sync::Arc;
 /// A type, a target for cuts, and a record.
 pub struct Subject {
     pub name: &'static str,
+    #[cfg(feature = "before")]
+    pub file: Vec<u8>,
     pub tree_nodes: u64,
     pub table: Table,
     pub node: usize,
@@ -34,6 +36,8 @@ impl Subject {
         let value = Value::from_padded_bits(&mut bits, &types[node]).expect("enough bits");
         Subject {
             name,
+            #[cfg(feature = "before")]
+            file: maker.file(),
             tree_nodes: plain.facts(node).size,
             table,
             node,

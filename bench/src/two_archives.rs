@@ -6,7 +6,7 @@
 //! the same buffers; one that makes a group longer, another number.
 
 use crate::measure::{words, Effort};
-use crate::subjects::{small, small_types};
+use crate::subjects::{readings, small, tags, Subject};
 use crate::tables::random;
 use oracle::BitCollector;
 use quelomavunt::bytes_for;
@@ -17,7 +17,7 @@ const MOST_NODES: usize = 1024;
 /// How often both tables are laid anew: where a table lies in memory alone moves its check by a tenth and more.
 const PLACES: usize = 8;
 
-/// The small record, its compact bits, and a target to cut it to.
+/// A record, its compact bits, and a target to cut it to.
 pub struct Case {
     bytes: Vec<u8>,
     width: u64,
@@ -84,10 +84,10 @@ macro_rules! archive {
             unsafe { check_table($(t.$buffer.as_ptr(), t.$buffer.len(),)* t.count) }
         }
 
-        /// An operation on the small record: the result, and the accepted number or the position after.
+        /// An operation on a record: the result, and the accepted number or the position after.
         type Operation = fn(&Table, &Case, &mut [u8], &mut u64) -> u64;
 
-        /// The seven operations on the small record.
+        /// The seven operations on a record.
         pub const OPERATIONS: [(&str, Operation); 7] = [
             ("read compact bits", |t, c, out, position| unsafe {
                 from_compact_bits($(t.$buffer.as_ptr(), t.$buffer.len(),)* t.count, c.compact.as_ptr(),
@@ -149,7 +149,11 @@ pub fn run(effort: Effort) {
     for count in [10, 100, 1024] {
         checks(effort, count);
     }
-    operations(effort);
+    operations(effort, small(), &[]);
+    // The two padded types are timed where a walk works: the rest only copies or compares.
+    for subject in [readings(), tags()] {
+        operations(effort, subject, &["read compact bits", "write compact bits", "cut", "compact length"]);
+    }
 }
 
 /// The best times of both over some places of their tables.
@@ -181,19 +185,16 @@ fn checks(effort: Effort, count: u64) {
     line(&format!("check of {count} nodes"), times);
 }
 
-/// The small record as both archives take it.
-fn case() -> Case {
-    let s = small();
+/// Times the operations on a subject's record: those that are named, or all.
+fn operations(effort: Effort, s: Subject, named: &[&str]) {
     let (compact, bits) = s.value.iter_compact().collect_bits();
     let (width, node, target) = (s.width(), s.node as u64, s.target as u64);
-    Case { bytes: s.bytes, width, compact, compact_bits: bits as u64, node, target }
-}
-
-fn operations(effort: Effort) {
-    let c = &case();
-    let file = small_types().0.file();
+    let c = &Case { bytes: s.bytes, width, compact, compact_bits: bits as u64, node, target };
     for ((name, new), (_, before)) in new::OPERATIONS.into_iter().zip(before::OPERATIONS) {
-        let times = best(&file, |new_table, before_table| {
+        if !named.is_empty() && !named.contains(&name) {
+            continue;
+        }
+        let times = best(&s.file, |new_table, before_table| {
             let (mut out, mut before_out) = (vec![0; bytes_for(c.width)], vec![0; bytes_for(c.width)]);
             let (mut number, mut before_number) = (0, 0);
             assert_eq!(new(new_table, c, &mut out, &mut number), 0, "{name}");
@@ -208,7 +209,7 @@ fn operations(effort: Effort) {
                 },
             )
         });
-        line(&format!("small record: {name}"), times);
+        line(&format!("{}: {name}", s.name), times);
     }
 }
 

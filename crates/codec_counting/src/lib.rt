@@ -1,6 +1,6 @@
-// How many compact bits a record has: the walk over it that counts them, and whether they fit. The walk goes by node numbers, which fall at
-// every turn and at every call: a turn goes on with the side that a tag takes, or with the right part of a product, and only a left part with
-// padding takes a call. What has no padding is one run of bits. Inner: the table and the bounds are those that a public call has checked.
+// How many compact bits a record has: the walk over it that counts them, and whether they fit. The walk recurses on node numbers, which fall
+// at every call: a sum calls it for the side that the tag takes, a product for its left part and then for its right part, and a node without
+// padding is one run of bits. Inner: the table and the bounds are those that a public call has checked.
 ghost use mathlib.Core.Path.{_≡_};
 ghost use lib.Dec.{leb};
 ghost use lib.ListN.{length, drop};
@@ -26,31 +26,36 @@ pub fn count_compact(
     requires { ⌜ Run (now src) at (bits (tyAt (columns (now kinds) (now lefts) (now rights)) node)) ⌝ }
     ensures { λ r. ⌜ r ≡ length (compact (tyAt (columns (now (kinds .entry)) (now (lefts .entry)) (now (rights .entry))) node) (drop at (bitsOf (now (src .entry))))) ⌝ }
 {
-    let mut here = node;
-    let mut from = at;
-    let mut counted = 0;
-    loop {
-        let n = nodes::node_at(kinds, lefts, rights, groups, count, here);
-        if !n.padded {
-            return counted + n.width as usize;
-        }
-        if n.kind == 1 {
-            let side = nodes::side_of(n, bits::bit_at(src, from));
-            counted = counted + 1;
-            from = from + (n.width - side.width) as usize;
-            here = side.node;
-            continue;
-        }
-        let left = nodes::node_at(kinds, lefts, rights, groups, count, n.left);
-        let first = if left.padded {
-            count_compact(kinds, lefts, rights, groups, count, src, from, n.left)
-        } else {
-            left.width as usize
-        };
-        counted = counted + first;
-        from = from + n.left_width as usize;
-        here = n.right;
+    let n = nodes::node_at(kinds, lefts, rights, groups, count, node);
+    if !n.padded {
+        return n.width as usize;
     }
+    if n.kind == 1 {
+        let side = nodes::side_of(n, bits::bit_at(src, at));
+        let payload = count_compact(
+            kinds,
+            lefts,
+            rights,
+            groups,
+            count,
+            src,
+            at + (n.width - side.width) as usize,
+            side.node,
+        );
+        return 1 + payload;
+    }
+    let first = count_compact(kinds, lefts, rights, groups, count, src, at, n.left);
+    let second = count_compact(
+        kinds,
+        lefts,
+        rights,
+        groups,
+        count,
+        src,
+        at + n.left_width as usize,
+        n.right,
+    );
+    first + second
 }
 
 // Whether the compact bits of the record at a bit fit into so many bytes. They are no more than the record has bits, so they are counted only

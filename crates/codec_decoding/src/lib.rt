@@ -1,7 +1,6 @@
-// Compact reading: the walk that writes a record from its compact bits. It goes by node numbers, which fall at every turn and at every call: a
-// turn goes on with the side that a tag takes, or with the right part of a product, and only a left part with padding takes a call. What has no
-// padding is one run of bits. Inner: the table and the bounds are those that a public call has checked, and what is read is known to be there
-// whole.
+// Compact reading: the walk that writes a record from its compact bits. It recurses on node numbers, which fall at every call: a sum calls it
+// for the side that the tag takes, a product for its left part and then for its right part, and a node without padding is one run of bits.
+// Inner: the table and the bounds are those that a public call has checked, and what is read is known to be there whole.
 ghost use mathlib.Core.Path.{_≡_};
 ghost use mathlib.Core.Bool.{false};
 ghost use Prim.Native.Nat.{_+_};
@@ -33,49 +32,55 @@ fn read_compact(
     requires { ⌜ Run (now out) to (bits (tyAt (columns (now kinds) (now lefts) (now rights)) node)) ⌝ }
     ensures { λ r. ⌜ ReadTo (decodeCompact (tyAt (columns (now (kinds .entry)) (now (lefts .entry)) (now (rights .entry))) node) (drop at (bitsOf (now (src .entry))))) at (now (out .entry)) to r (now (out .exit)) ⌝ }
 {
-    let mut here = node;
-    let mut from = at;
-    let mut next = to;
-    loop {
-        let n = nodes::node_at(kinds, lefts, rights, groups, count, here);
-        if !n.padded {
-            let w = n.width as usize;
-            bits_runs::copy_bits(src, from, out, next, w);
-            return from + w;
-        }
-        if n.kind == 1 {
-            let right = bits::bit_at(src, from);
-            let side = nodes::side_of(n, right);
-            let pad = (n.width - side.width - 1) as usize;
-            bits::put_bit(out, next, right);
-            bits_runs::clear_bits(out, next + 1, pad);
-            from = from + 1;
-            next = next + 1 + pad;
-            here = side.node;
-            continue;
-        }
-        let left = nodes::node_at(kinds, lefts, rights, groups, count, n.left);
-        if left.padded {
-            from = read_compact(
-                kinds,
-                lefts,
-                rights,
-                groups,
-                count,
-                src,
-                from,
-                n.left,
-                out,
-                next,
-            );
-        } else {
-            let first = left.width as usize;
-            bits_runs::copy_bits(src, from, out, next, first);
-            from = from + first;
-        }
-        next = next + n.left_width as usize;
-        here = n.right;
+    let n = nodes::node_at(kinds, lefts, rights, groups, count, node);
+    if !n.padded {
+        let w = n.width as usize;
+        bits_runs::copy_bits(src, at, out, to, w);
+        return at + w;
     }
+    if n.kind == 1 {
+        let right = bits::bit_at(src, at);
+        let side = nodes::side_of(n, right);
+        let pad = (n.width - side.width - 1) as usize;
+        bits::put_bit(out, to, right);
+        bits_runs::clear_bits(out, to + 1, pad);
+        return read_compact(
+            kinds,
+            lefts,
+            rights,
+            groups,
+            count,
+            src,
+            at + 1,
+            side.node,
+            out,
+            to + 1 + pad,
+        );
+    }
+    let next = read_compact(
+        kinds,
+        lefts,
+        rights,
+        groups,
+        count,
+        src,
+        at,
+        n.left,
+        out,
+        to,
+    );
+    read_compact(
+        kinds,
+        lefts,
+        rights,
+        groups,
+        count,
+        src,
+        next,
+        n.right,
+        out,
+        to + n.left_width as usize,
+    )
 }
 
 // Writes the record whose compact bits begin at a bit from bit 0 of the output on, and answers the bit after them.

@@ -1,6 +1,6 @@
-// Compact writing: the walk over a record that writes its compact bits. It goes by node numbers, which fall at every turn and at every call: a
-// turn goes on with the side that a tag takes, or with the right part of a product, and only a left part with padding takes a call. What has no
-// padding is one run of bits. Inner: the table and the bounds are those that a public call has checked.
+// Compact writing: the walk over a record that writes its compact bits. It recurses on node numbers, which fall at every call: a sum calls it
+// for the side that the tag takes, a product for its left part and then for its right part, and a node without padding is one run of bits.
+// Inner: the table and the bounds are those that a public call has checked.
 ghost use mathlib.Core.Path.{_≡_};
 ghost use lib.ListN.{length, drop};
 ghost use Rattle.meaning.specs.Types.{bits};
@@ -29,47 +29,53 @@ fn write_compact(
     requires { ⌜ Run (now out) to (length (compact (tyAt (columns (now kinds) (now lefts) (now rights)) node) (drop at (bitsOf (now src))))) ⌝ }
     ensures { λ r. ⌜ Wrote (compact (tyAt (columns (now (kinds .entry)) (now (lefts .entry)) (now (rights .entry))) node) (drop at (bitsOf (now (src .entry))))) (now (out .entry)) to r (now (out .exit)) ⌝ }
 {
-    let mut here = node;
-    let mut from = at;
-    let mut next = to;
-    loop {
-        let n = nodes::node_at(kinds, lefts, rights, groups, count, here);
-        if !n.padded {
-            let w = n.width as usize;
-            bits_runs::copy_bits(src, from, out, next, w);
-            return next + w;
-        }
-        if n.kind == 1 {
-            let right = bits::bit_at(src, from);
-            let side = nodes::side_of(n, right);
-            bits::put_bit(out, next, right);
-            next = next + 1;
-            from = from + (n.width - side.width) as usize;
-            here = side.node;
-            continue;
-        }
-        let left = nodes::node_at(kinds, lefts, rights, groups, count, n.left);
-        if left.padded {
-            next = write_compact(
-                kinds,
-                lefts,
-                rights,
-                groups,
-                count,
-                src,
-                from,
-                n.left,
-                out,
-                next,
-            );
-        } else {
-            let first = left.width as usize;
-            bits_runs::copy_bits(src, from, out, next, first);
-            next = next + first;
-        }
-        from = from + n.left_width as usize;
-        here = n.right;
+    let n = nodes::node_at(kinds, lefts, rights, groups, count, node);
+    if !n.padded {
+        let w = n.width as usize;
+        bits_runs::copy_bits(src, at, out, to, w);
+        return to + w;
     }
+    if n.kind == 1 {
+        let right = bits::bit_at(src, at);
+        let side = nodes::side_of(n, right);
+        bits::put_bit(out, to, right);
+        return write_compact(
+            kinds,
+            lefts,
+            rights,
+            groups,
+            count,
+            src,
+            at + (n.width - side.width) as usize,
+            side.node,
+            out,
+            to + 1,
+        );
+    }
+    let next = write_compact(
+        kinds,
+        lefts,
+        rights,
+        groups,
+        count,
+        src,
+        at,
+        n.left,
+        out,
+        to,
+    );
+    write_compact(
+        kinds,
+        lefts,
+        rights,
+        groups,
+        count,
+        src,
+        at + n.left_width as usize,
+        n.right,
+        out,
+        next,
+    )
 }
 
 // Writes the compact bits of the record at a bit from bit 0 of the output on, and answers how many they are.

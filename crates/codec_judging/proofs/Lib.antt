@@ -1,3 +1,2 @@
--- Where a reading ends, and what holds at each turn of the walk.
+-- Where a reading ends.
 pub mod Ends
-pub mod Turns

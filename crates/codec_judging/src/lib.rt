@@ -1,7 +1,6 @@
-// Where the compact bits of a record end: the judge, a walk that only reads, and whether a stream ends before they do. The walk goes by node
-// numbers, which fall at every turn and at every call: a turn goes on with the side that a tag takes, or with the right part of a product, and
-// only a left part with padding takes a call. What has no padding is one run of bits. Inner: the table and the bounds are those that a public
-// call has checked.
+// Where the compact bits of a record end: the judge, a walk that only reads, and whether a stream ends before they do. The walk recurses on
+// node numbers, which fall at every call: a sum calls it for the side that the tag takes, a product for its left part and then for its right
+// part, and a node without padding is one run of bits. Inner: the table and the bounds are those that a public call has checked.
 ghost use mathlib.Core.Path.{_≡_};
 ghost use Prim.Native.Nat.{_*_, _≤_};
 ghost use lib.ListN.{length, take, drop};
@@ -33,51 +32,46 @@ fn judge_compact(
     requires { ⌜ (at ≤ until) × (until ≤ 8 * length (now src)) ⌝ }
     ensures { λ r. ⌜ r ≡ endOf at (decodeCompact (tyAt (columns (now (kinds .entry)) (now (lefts .entry)) (now (rights .entry))) node) (drop at (take until (bitsOf (now (src .entry)))))) ⌝ }
 {
-    let mut here = node;
-    let mut from = at;
-    loop {
-        let n = nodes::node_at(kinds, lefts, rights, groups, count, here);
-        if !n.padded {
-            let w = n.width as usize;
-            if until - from < w {
-                return End::Early;
-            }
-            return End::At(from + w);
+    let n = nodes::node_at(kinds, lefts, rights, groups, count, node);
+    if !n.padded {
+        let w = n.width as usize;
+        if until - at < w {
+            return End::Early;
         }
-        if n.kind == 1 {
-            if from == until {
-                return End::Early;
-            }
-            let side = nodes::side_of(n, bits::bit_at(src, from));
-            from = from + 1;
-            here = side.node;
-            continue;
-        }
-        let left = nodes::node_at(kinds, lefts, rights, groups, count, n.left);
-        if left.padded {
-            let End::At(next) = judge_compact(
-                kinds,
-                lefts,
-                rights,
-                groups,
-                count,
-                src,
-                until,
-                from,
-                n.left,
-            ) else {
-                return End::Early;
-            };
-            from = next;
-        } else {
-            let first = left.width as usize;
-            if until - from < first {
-                return End::Early;
-            }
-            from = from + first;
-        }
-        here = n.right;
+        return End::At(at + w);
     }
+    if n.kind == 1 {
+        if at == until {
+            return End::Early;
+        }
+        let side = nodes::side_of(n, bits::bit_at(src, at));
+        return judge_compact(
+            kinds,
+            lefts,
+            rights,
+            groups,
+            count,
+            src,
+            until,
+            at + 1,
+            side.node,
+        );
+    }
+    let End::At(next) = judge_compact(kinds, lefts, rights, groups, count, src, until, at, n.left)
+    else {
+        return End::Early;
+    };
+    judge_compact(
+        kinds,
+        lefts,
+        rights,
+        groups,
+        count,
+        src,
+        until,
+        next,
+        n.right,
+    )
 }
 
 // Whether a stream that ends at bit `until` ends before the compact bits of the record at a bit do. They are no more than the record has bits,

@@ -4,7 +4,7 @@
 --   own-width low             the width that was read is the true one; it lies below the end of the numbers
 --   is-sum is-prod            the tree of a node with padding, by its kind
 --   side                      a side of it, by its tag
---   tag-room both             tag and payload fit a sum; the parts make up a product
+--   Taken taken               the side of a sum that a tag took
 --   tag-inside payload-run first-run second-run     where tag, payload and parts lie in a record that lies in bytes
 -- Assumes nothing.
 use mathlib.Core.Path.{_≡_, sym, subst}
@@ -29,6 +29,13 @@ pub record NodeRead (t : Table) (n : ℕ) (r : Node) : Type 0 where
   pub named : Named t n
   pub reads : Reads t n r
 
+-- The side s of a sum that a tag took.
+pub record Taken (t : Table) (n : ℕ) (r : Node) (s : Side) : Type 0 where
+  pub named : Named t (s .node)
+  pub falls : s .node < n
+  pub wide : s .width ≡ bits (tyAt (t .columns) (s .node))
+  pub room : 1 + s .width ≤ r .width
+
 module _ {t : Table} {n : ℕ} {r : Node} (h : NodeRead t n r) where
   pub own-width : r .width ≡ bits (tyAt (t .columns) n)
   own-width = nodes.own-width t n r (h .reads) (h .named)
@@ -49,11 +56,18 @@ module _ {t : Table} {n : ℕ} {r : Node} (h : NodeRead t n r) where
   pub side : r .padded ≡ true → (g : Bool) → SideRead t n r g
   side p = side-read t n r (h .reads) (h .named) (padded-inner t n r (h .reads) p)
 
-  pub tag-room : r .kind ≡ 1 → (g : Bool) → 1 + sideOf g r .width ≤ r .width
+  -- Tag and payload fit a sum.
+  tag-room : r .kind ≡ 1 → (g : Bool) → 1 + sideOf g r .width ≤ r .width
   tag-room k true = omega (arith, sum-total t n r (h .reads) (h .named) k)
   tag-room k false = omega (arith, sum-total t n r (h .reads) (h .named) k)
 
-  pub both : r .padded ≡ true → (r .kind ≡ 1 → ⊥) → r .width ≡ r .«left_width» + r .«right_width»
+  pub taken : r .padded ≡ true → r .kind ≡ 1 → (g : Bool) {s : Side} → s ≡ sideOf g r → Taken t n r s
+  taken p k g e =
+      let x = side p g in
+      subst (Taken t n r) (sym e) (record { named = x .named; falls = x .falls; wide = x .wide; room = tag-room k g })
+
+  -- The parts make up a product.
+  both : r .padded ≡ true → (r .kind ≡ 1 → ⊥) → r .width ≡ r .«left_width» + r .«right_width»
   both p f = prod-total t n r (h .reads) (h .named) (is-two p f)
 
   -- A record of the node that lies in the bytes x from bit `at` on.

@@ -4,6 +4,7 @@
 --   compact-run               without padding it is one run of bits
 --   compact-right compact-left      a tag and the payload's, which lies at the end
 --   compact-both              those of the first part, then those of the second
+--   node-run node-run-length node-tagged node-both      the same of a node that was read
 -- Assumes nothing.
 use mathlib.Core.Path.{_≡_, refl, sym, ap, ap₂, _∙_}
 use mathlib.Core.Bool.{Bool, true, false, cond}

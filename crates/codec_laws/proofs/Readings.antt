@@ -5,7 +5,6 @@
 --   run-enough tag-enough first-whole   what a whole reading at a node says: enough bits, a tag, a whole first part
 --   Tagged tagged-whole         the payload after a tag is whole too, and what the sum adds to it
 --   Joined joined-whole         the same of the second part of a product
---   read-at                     the same output and end
 --   read-run read-tag read-both what was written, by the pieces
 -- Assumes nothing.
 use mathlib.Core.Path.{_≡_, refl, sym, ap, _∙_, subst}
@@ -23,7 +22,7 @@ use Rattle.meaning.specs.Codecs.{Decoded, early, decoded, underTag, afterFirst,
 use Rattle.laws.proofs.CodecExact.{compact-wide-enough}
 use Rattle.nodes.specs.declared.Node.{Node}
 use Rattle.codec_laws.specs.Walks.{Wrote, ReadTo}
-use Rattle.codec_laws.proofs.Writing.{wrote, wrote-at, wrote-run, wrote-tag, wrote-both}
+use Rattle.codec_laws.proofs.Writing.{wrote, wrote-run, wrote-tag, wrote-both}
 use Rattle.codec_laws.proofs.Nodes.{NodeRead}
 use Rattle.codec_laws.proofs.Streams.{under, decode-short, decode-none, decode-first-early}
 
@@ -92,10 +91,6 @@ wrote-end : {v u : List Bool} {before after : List ℕ} {to next : ℕ} → v �
     → Wrote v before to (to + length v) after
 wrote-end {v} {u} {before} {after} {to} {next} e p =
     wrote e (subst (λ (k : ℕ). Wrote u before to k after) (p .ends ∙ ap (λ (x : List Bool). to + length x) (sym e)) p)
-
-pub read-at : {d : Decoded} {before x after : List ℕ} {at to n next : ℕ} → after ≡ x → next ≡ n → ReadTo d at before to n x
-    → ReadTo d at before to next after
-read-at e f r = record { consumes = f ∙ r .consumes; wrote = wrote-at e refl (r .wrote) }
 
 pub read-run : {d : Decoded} (x : List Bool) {w : ℕ} {before after : List ℕ} {at to : ℕ} → d ≡ decoded (take w x) w → w ≤ length x
     → bitsOf after ≡ paste (bitsOf before) to x w → ReadTo d at before to (at + w) after

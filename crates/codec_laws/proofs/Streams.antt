@@ -1,5 +1,6 @@
 -- A compact reading that begins at a bit of a list of bits, piece by piece.
 --
+--   under                           a record of a sum: the tag, zero padding, the payload
 --   decode-short decode-run         without padding: as many bits as the type is wide, or an early end
 --   decode-none decode-tagged       a sum: no bit is left; or a tag, and the payload that follows it
 --   decode-first-early decode-both  a product: the first part ends early; or the second follows the first

@@ -2,7 +2,7 @@
 --
 --   run-as run-kept           the same run, its length said otherwise; it is one of other bytes that are as many
 --   run-front run-back        where the first piece lies, and where the second does
---   wrote wrote-at            the same bits; the same output and end
+--   wrote                     the same bits
 --   wrote-run                 a run of bits that was copied
 --   wrote-tag                 a tag, and then the rest
 --   wrote-both                one piece after the other
@@ -41,10 +41,6 @@ module _ {x : List ℕ} {to : ℕ} {whole : List Bool} (v w : List Bool) (i : Ru
 
 pub wrote : {v u : List Bool} {before after : List ℕ} {to next : ℕ} → v ≡ u → Wrote u before to next after → Wrote v before to next after
 wrote {before = before} {after = after} {to = to} {next = next} e p = subst (λ (x : List Bool). Wrote x before to next after) (sym e) p
-
-pub wrote-at : {v : List Bool} {before x after : List ℕ} {to n next : ℕ} → after ≡ x → next ≡ n → Wrote v before to n x
-    → Wrote v before to next after
-wrote-at e f p = record { ends = f ∙ p .ends; writes = ap bitsOf e ∙ p .writes }
 
 pub wrote-run : {v : List Bool} (x : List Bool) {n : ℕ} {before after : List ℕ} {to : ℕ} → v ≡ take n x → n ≡ length v
     → bitsOf after ≡ paste (bitsOf before) to x n → Wrote v before to (to + n) after

@@ -1,9 +1,8 @@
--- `codec_judging::judge_compact` meets its contract. The measure of its calls is the node's number, and that of its loop the number of the node that
--- it has come to. The loop's invariant: the whole ends where the reading at that node does. Assumes nothing.
-use mathlib.Core.Path.{_≡_, refl, sym, ap, _∙_, subst}
+-- `codec_judging::judge_compact` meets its contract. The measure is the node's number. Assumes nothing.
+use mathlib.Core.Path.{_≡_, sym, ap, _∙_}
 use mathlib.Core.Bool.{Bool, true, false}
 use mathlib.Core.List.{List}
-use Prim.Native.Nat.{ℕ, _+_, _-_, _<_}
+use Prim.Native.Nat.{ℕ, _+_, _-_, _<_, _≤_}
 use native.Mathlib.Omega.{arith}
 use borrow.Author.Needs.{needs}
 use borrow.Author.Tests.{not-true, not-false}
@@ -13,18 +12,14 @@ use lib.ListN.{length, take, drop, length-drop}
 use lib.Seq.{length-take-le, getD-take}
 use Rattle.meaning.specs.Tables.{Table, table, tyAt}
 use Rattle.meaning.specs.Bits.{bitsOf}
-use Rattle.meaning.specs.Codecs.{Decoded, early, recordOf, consumed, decodeCompact}
+use Rattle.meaning.specs.Codecs.{Decoded, recordOf, consumed, decodeCompact}
 use Rattle.bits.proofs.OfBytes.{length-bitsOf}
 use Rattle.laws.proofs.CodecRoundTrips.{compact-read-write}
-use Rattle.codec_judging.specs.declared.End.{End}
 use Rattle.codec_judging.specs.Ends.{endOf}
-use Rattle.nodes.specs.declared.Side.{Side}
-use Rattle.checked.specs.Passed.{Named}
 use Rattle.checked.proofs.Nodes.{SideRead}
-use Rattle.codec_laws.proofs.Nodes.{NodeRead, side}
+use Rattle.codec_laws.proofs.Nodes.{NodeRead, Taken, side, taken}
 use Rattle.codec_laws.proofs.Streams.{under, decode-short, decode-run, decode-none, decode-tagged, decode-first-early, decode-both}
 use Rattle.codec_judging.proofs.Ends.{EndsAt, end-tagged, end-after, end-at, end-early}
-use Rattle.codec_judging.proofs.Turns.{Judging}
 use Rattle.codec_judging.proofs.judge_compact.Reads as own
 use Rattle.codec_judging.proofs.judge_compact.Kinds as kinds
 use Rattle.codec_judging.proofs.+judge_compact.Lts-judge_compact as lts
@@ -57,36 +52,21 @@ called t = (
   own.Post,
 )
 
-abbrev Inv-loop : lts.InvT-loop
-Inv-loop kinds lefts rights groups count src until at node here₀ from₀ here from =
-    Judging (table kinds lefts rights groups count) src until at node from here
-
-abbrev μ-loop : lts.MeasureT-loop
-μ-loop kinds lefts rights groups count src until at node here₀ from₀ here from = here
-
-loop-holds : (t : ℕ) → lts.Need-loop-holds (called t) (given t) own.Post Inv-loop μ-loop
-loop-holds t c =
-    let b = c .before .before .before .before .before in
-    record { named = b .pre .1 .0; falls = omega arith; begins = b .pre .1 .1 .0; whole = refl }
-
-node-at-requires : (t : ℕ) → lts.Need-node-at-requires (called t) (given t) own.Post Inv-loop μ-loop
-node-at-requires t c κs = let w = c .loop .inv .named in (w .sound, w .here)
+node-at-requires : (t : ℕ) → lts.Need-node-at-requires (called t) (given t) own.Post
+node-at-requires t c κs = let w = c .before .before .before .before .before .pre .1 .0 in (w .sound, w .here)
 
 -- The node that was read, at any place after that.
-module _ (t : ℕ) (c : lts.After-node-at (called t) (given t) own.Post Inv-loop μ-loop) where
-  abbrev turn : lts.At-loop (called t) (given t) own.Post Inv-loop μ-loop
-  turn = c .before
-
-  abbrev start : lts.Start (called t) (given t) own.Post Inv-loop μ-loop
-  start = turn .before .before .before .before .before .before
+module _ (t : ℕ) (c : lts.After-node-at (called t) (given t) own.Post) where
+  abbrev start : lts.Start (called t) (given t) own.Post
+  start = c .before .before .before .before .before .before
 
   abbrev of : Table
   of =
       let a = start .args in
       table (a .kinds .now) (a .lefts .now) (a .rights .now) (a .groups .now) (a .count)
 
-  here : NodeRead of (turn .loop .here) (c .node-at .result)
-  here = record { named = turn .loop .inv .named; reads = c .node-at .ensures }
+  here : NodeRead of (start .args .node) (c .node-at .result)
+  here = record { named = start .pre .1 .0; reads = c .node-at .ensures }
 
   -- The stream up to its end.
   abbrev stream : List Bool
@@ -96,250 +76,187 @@ module _ (t : ℕ) (c : lts.After-node-at (called t) (given t) own.Post Inv-loop
   stream-length =
       length-take-le (start .args .until) (bitsOf (start .args .src .now)) (omega (arith, start .pre .1 .1 .1, length-bitsOf (start .args .src .now)))
 
-  -- What is read at the node here, and where the whole ends if that is known.
+  -- What is read at the node, and where that ends if it is known.
   abbrev read : Decoded
-  read = decodeCompact (tyAt (of .columns) (turn .loop .here)) (drop (turn .loop .from) stream)
+  read = decodeCompact (tyAt (of .columns) (start .args .node)) (drop (start .args .at) stream)
 
-  ends : {d : Decoded} → read ≡ d
-      → endOf (turn .loop .from) d ≡ endOf (start .args .at) (decodeCompact (tyAt (of .columns) (start .args .node)) (drop (start .args .at) stream))
-  ends e = ap (endOf (turn .loop .from)) (sym e) ∙ turn .loop .inv .whole
+  ends : {d : Decoded} → read ≡ d → endOf (start .args .at) d ≡ endOf (start .args .at) read
+  ends e = ap (endOf (start .args .at)) (sym e)
 
-sub-if2 : (t : ℕ) → lts.Need-sub-if2 (called t) (given t) own.Post Inv-loop μ-loop
-sub-if2 t c = omega (arith, turn t (c .before .before) .loop .inv .begins)
+sub-if2 : (t : ℕ) → lts.Need-sub-if2 (called t) (given t) own.Post
+sub-if2 t c = start t (c .before .before) .pre .1 .1 .0
 
-returns : (t : ℕ) → lts.Need-returns (called t) (given t) own.Post Inv-loop μ-loop
+returns : (t : ℕ) → lts.Need-returns (called t) (given t) own.Post
 returns t c =
     let n = c .before .before .before in
     ends t n
-    (decode-short (here t n) (stream t n) (turn t n .loop .from) (not-true (n .node-at .result .padded) (c .before .if1 .taken))
+    (decode-short (here t n) (stream t n) (start t n .args .at) (not-true (n .node-at .result .padded) (c .before .if1 .taken))
     (omega (arith, stream-length t n, c .if2 .taken)))
 
-add-t19 : (t : ℕ) → lts.Need-add-t19 (called t) (given t) own.Post Inv-loop μ-loop
-add-t19 t c =
-    let n = c .before .before .before in
-    record { fits = omega (arith, turn t n .loop .inv .begins, c .if2 .left, start t n .fits .until .fits) }
+add-t15 : (t : ℕ) → lts.Need-add-t15 (called t) (given t) own.Post
+add-t15 t c =
+    let b = start t (c .before .before .before) in
+    record { fits = omega (arith, b .pre .1 .1 .0, c .if2 .left, b .fits .until .fits) }
 
-returns-2 : (t : ℕ) → lts.Need-returns-2 (called t) (given t) own.Post Inv-loop μ-loop
+returns-2 : (t : ℕ) → lts.Need-returns-2 (called t) (given t) own.Post
 returns-2 t c =
     let n = c .before .before .before in
     ends t n
-    (decode-run (here t n) (stream t n) (turn t n .loop .from) (not-true (n .node-at .result .padded) (c .before .if1 .taken))
+    (decode-run (here t n) (stream t n) (start t n .args .at) (not-true (n .node-at .result .padded) (c .before .if1 .taken))
     (omega (arith, stream-length t n, c .if2 .left)))
 
-returns-3 : (t : ℕ) → lts.Need-returns-3 (called t) (given t) own.Post Inv-loop μ-loop
+returns-3 : (t : ℕ) → lts.Need-returns-3 (called t) (given t) own.Post
 returns-3 t c =
     let n = c .before .before .before .before .before in
     ends t n
-    (decode-none (here t n) (stream t n) (turn t n .loop .from) (c .before .if3 .taken) (omega (arith, stream-length t n, c .if4 .taken)))
+    (decode-none (here t n) (stream t n) (start t n .args .at) (c .before .if3 .taken) (omega (arith, stream-length t n, c .if4 .taken)))
 
-bit-at-requires : (t : ℕ) → lts.Need-bit-at-requires (called t) (given t) own.Post Inv-loop μ-loop
+bit-at-requires : (t : ℕ) → lts.Need-bit-at-requires (called t) (given t) own.Post
 bit-at-requires t c κs =
-    let n = c .before .before .before .before .before in
-    omega (arith, turn t n .loop .inv .begins, start t n .pre .1 .1 .1, c .if4 .left)
+    let b = start t (c .before .before .before .before .before) in omega (arith, b .pre .1 .1 .0, b .pre .1 .1 .1, c .if4 .left)
 
-side-of-requires : (t : ℕ) → lts.Need-side-of-requires (called t) (given t) own.Post Inv-loop μ-loop
+side-of-requires : (t : ℕ) → lts.Need-side-of-requires (called t) (given t) own.Post
 side-of-requires t c κs = search needs
 
 -- The side that the tag takes.
-module _ (t : ℕ) (c : lts.After-side-of (called t) (given t) own.Post Inv-loop μ-loop) where
-  abbrev tagged : lts.After-node-at (called t) (given t) own.Post Inv-loop μ-loop
+module _ (t : ℕ) (c : lts.After-side-of (called t) (given t) own.Post) where
+  abbrev tagged : lts.After-node-at (called t) (given t) own.Post
   tagged = c .before .before .before .before .before .before .before
 
   sum-padded : tagged .node-at .result .padded ≡ true
   sum-padded = not-false (tagged .node-at .result .padded) (c .before .before .before .before .before .if1 .left)
 
-  taken : SideRead (of t tagged) (turn t tagged .loop .here) (tagged .node-at .result) (c .before .bit-at .result)
-  taken = side (here t tagged) sum-padded (c .before .bit-at .result)
+  goes-on : Taken (of t tagged) (start t tagged .args .node) (tagged .node-at .result) (c .side-of .result)
+  goes-on = taken (here t tagged) sum-padded (c .before .before .before .if3 .taken) (c .before .bit-at .result) (c .side-of .ensures)
 
-  goes-on : Named (of t tagged) (c .side-of .result .node)
-  goes-on = subst (λ (x : Side). Named (of t tagged) (x .node)) (sym (c .side-of .ensures)) (taken .named)
+  more : start t tagged .args .at < start t tagged .args .until
+  more = omega (arith, start t tagged .pre .1 .1 .0, c .before .before .if4 .left)
 
-  lower : c .side-of .result .node < turn t tagged .loop .here
-  lower = subst (λ (x : Side). x .node < turn t tagged .loop .here) (sym (c .side-of .ensures)) (taken .falls)
+add-judge-compact : (t : ℕ) → lts.Need-add-judge-compact (called t) (given t) own.Post
+add-judge-compact t c = record { fits = omega (arith, more t c, start t (tagged t c) .fits .until .fits) }
 
-  more : turn t tagged .loop .from < start t tagged .args .until
-  more = omega (arith, turn t tagged .loop .inv .begins, c .before .before .if4 .left)
+judge-compact-requires : (t : ℕ) → lts.Need-judge-compact-requires (called t) (given t) own.Post
+judge-compact-requires t c κs =
+    let b = start t (tagged t c) in
+    let x = goes-on t c in
+    (omega (arith, x .falls, b .pre .0), (x .named, (omega (arith, more t c), b .pre .1 .1 .1)))
 
-add-from : (t : ℕ) → lts.Need-add-from (called t) (given t) own.Post Inv-loop μ-loop
-add-from t c = record { fits = omega (arith, more t c, start t (tagged t c) .fits .until .fits) }
-
-loop-less : (t : ℕ) → lts.Need-loop-less (called t) (given t) own.Post Inv-loop μ-loop
-loop-less t c = lower t c
-
-loop-again : (t : ℕ) → lts.Need-loop-again (called t) (given t) own.Post Inv-loop μ-loop
-loop-again t c =
-    let n = tagged t c in
+returns-4 : (t : ℕ) → lts.Need-returns-4 (called t) (given t) own.Post
+returns-4 t c =
+    let d = c .before in
+    let n = tagged t d in
     let a = start t n .args in
-    let l = turn t n .loop in
-    let tag = c .before .bit-at .result in
-    let payload = decodeCompact (tyAt (of t n .columns) (c .side-of .result .node)) (drop (l .from + 1) (stream t n)) in
-    record {
-      named = goes-on t c;
-      falls = omega (arith, l .inv .falls, lower t c);
-      begins = omega (arith, more t c);
-      whole =
-          end-tagged (l .from) (under tag (n .node-at .result .width - c .side-of .result .width - 1)) payload
-          ∙ ends t n
-          (decode-tagged (here t n) (stream t n) (l .from) (sum-padded t c) (c .before .before .before .if3 .taken)
-          (omega (arith, more t c, stream-length t n))
-          (c .side-of .ensures)
-          (c .before .bit-at .ensures ∙ sym (getD-take (a .until) (bitsOf (a .src .now)) (l .from) false (more t c))));
-    }
+    let tag = d .before .bit-at .result in
+    let payload = decodeCompact (tyAt (of t n .columns) (d .side-of .result .node)) (drop (a .at + 1) (stream t n)) in
+    c .judge-compact .ensures
+    ∙ end-tagged (a .at) (under tag (n .node-at .result .width - d .side-of .result .width - 1)) payload
+    ∙ ends t n
+    (decode-tagged (here t n) (stream t n) (a .at) (sum-padded t d) (d .before .before .before .if3 .taken)
+    (omega (arith, more t d, stream-length t n))
+    (d .side-of .ensures)
+    (d .before .bit-at .ensures ∙ sym (getD-take (a .until) (bitsOf (a .src .now)) (a .at) false (more t d))))
 
 -- The parts of a product.
-module _ (t : ℕ) (c : lts.Else3 (called t) (given t) own.Post Inv-loop μ-loop) where
-  abbrev parted : lts.After-node-at (called t) (given t) own.Post Inv-loop μ-loop
+module _ (t : ℕ) (c : lts.Else3 (called t) (given t) own.Post) where
+  abbrev parted : lts.After-node-at (called t) (given t) own.Post
   parted = c .before .before .before .before
 
-  -- What is read of the first, and of the second after m bits.
+  -- What is read of the first.
   abbrev front : Decoded
-  front = decodeCompact (tyAt (of t parted .columns) (parted .node-at .result .left)) (drop (turn t parted .loop .from) (stream t parted))
-
-  abbrev back : ℕ → Decoded
-  back k = decodeCompact (tyAt (of t parted .columns) (parted .node-at .result .right)) (drop k (stream t parted))
+  front = decodeCompact (tyAt (of t parted .columns) (parted .node-at .result .left)) (drop (start t parted .args .at) (stream t parted))
 
   product-padded : parted .node-at .result .padded ≡ true
   product-padded = not-false (parted .node-at .result .padded) (c .before .before .if1 .left)
 
-  halves : (g : Bool) → SideRead (of t parted) (turn t parted .loop .here) (parted .node-at .result) g
+  halves : (g : Bool) → SideRead (of t parted) (start t parted .args .node) (parted .node-at .result) g
   halves = side (here t parted) product-padded
 
-  first-early : front ≡ early → read t parted ≡ early
-  first-early e = decode-first-early (here t parted) (stream t parted) (turn t parted .loop .from) product-padded (c .if3 .left) e
+judge-compact-requires-2 : (t : ℕ) → lts.Need-judge-compact-requires-2 (called t) (given t) own.Post
+judge-compact-requires-2 t c κs =
+    let b = start t (parted t c) in
+    let x = halves t c false in
+    (omega (arith, x .falls, b .pre .0), (x .named, b .pre .1 .1))
 
-  -- The first part was read whole, and ended at bit `next`: so the walk goes on with the second.
-  second-next : {next : ℕ} → EndsAt (turn t parted .loop .from) next front
-      → Judging (of t parted) (start t parted .args .src .now) (start t parted .args .until) (start t parted .args .at) (start t parted .args .node) next
-      (parted .node-at .result .right)
-  second-next {next} e =
-      let l = turn t parted .loop in
-      let m = consumed front in
-      record {
-        named = halves true .named;
-        falls = omega (arith, l .inv .falls, halves true .falls);
-        begins =
-            omega (
-              arith,
-              compact-read-write (tyAt (of t parted .columns) (parted .node-at .result .left)) (drop (l .from) (stream t parted)) (recordOf front) m (e .whole)
-                  .enough,
-              length-drop (l .from) (stream t parted),
-              stream-length t parted,
-              e .ends,
-              l .inv .begins,
-            );
-        whole =
-            ap (λ (k : ℕ). endOf k (back k)) (e .ends)
-            ∙ end-after (l .from) (recordOf front) m (back (l .from + m))
-            ∙ ends t parted (decode-both (here t parted) (stream t parted) (l .from) product-padded (c .if3 .left) (e .whole));
-      }
-
-node-at-requires-2 : (t : ℕ) → lts.Need-node-at-requires-2 (called t) (given t) own.Post Inv-loop μ-loop
-node-at-requires-2 t c κs = let w = halves t c false .named in (w .sound, w .here)
-
-judge-compact-requires : (t : ℕ) → lts.Need-judge-compact-requires (called t) (given t) own.Post Inv-loop μ-loop
-judge-compact-requires t c κs =
-    let d = c .before .before in
-    let n = parted t d in
-    let i = turn t n .loop .inv in
-    let b = start t n in
-    let x = halves t d in
-    (omega (arith, x false .falls, i .falls, b .pre .0), (x false .named, (i .begins, b .pre .1 .1 .1)))
-
-enum-known-next : (t : ℕ) → lts.Need-enum-known-next (called t) (given t) own.Post Inv-loop μ-loop
+enum-known-next : (t : ℕ) → lts.Need-enum-known-next (called t) (given t) own.Post
 enum-known-next t c = search needs
 
-enum-told : (t : ℕ) → lts.Need-enum-told (called t) (given t) own.Post Inv-loop μ-loop
+enum-told : (t : ℕ) → lts.Need-enum-told (called t) (given t) own.Post
 enum-told t c = search needs
 
--- The first part has been judged by a call.
-module _ (t : ℕ) (c : lts.After-judge-compact (called t) (given t) own.Post Inv-loop μ-loop) where
-  abbrev asked : lts.Else3 (called t) (given t) own.Post Inv-loop μ-loop
-  asked = c .before .before .before
+-- The first part of a product was read whole.
+module _ (t : ℕ) (c : lts.After-next (called t) (given t) own.Post) where
+  abbrev divided : lts.Else3 (called t) (given t) own.Post
+  divided = c .before .before .before
 
-  verdict : {e : End} → c .judge-compact .result ≡ e → e ≡ endOf (turn t (parted t asked) .loop .from) (front t asked)
-  verdict f = sym f ∙ c .judge-compact .ensures
+  ended : EndsAt (start t (parted t divided) .args .at) (c .next .given .0 .0) (front t divided)
+  ended =
+      end-at (start t (parted t divided) .args .at) (c .next .given .0 .0) (front t divided)
+      (sym (c .next .given .1) ∙ c .before .before .judge-compact2 .ensures)
 
-returns-4 : (t : ℕ) → lts.Need-returns-4 (called t) (given t) own.Post Inv-loop μ-loop
-returns-4 t c =
-    let j = c .before .before in
-    let d = asked t j in
-    let n = parted t d in
-    ends t n (first-early t d (end-early (turn t n .loop .from) (front t d) (verdict t j (c .enum-told .given .1))))
+  within : c .next .given .0 .0 ≤ start t (parted t divided) .args .until
+  within =
+      let n = parted t divided in
+      let b = start t n in
+      let first = front t divided in
+      let rest = drop (b .args .at) (stream t n) in
+      omega (
+        arith,
+        compact-read-write (tyAt (of t n .columns) (n .node-at .result .left)) rest (recordOf first) (consumed first) (ended .whole) .enough,
+        length-drop (b .args .at) (stream t n),
+        stream-length t n,
+        ended .ends,
+        b .pre .1 .1 .0,
+      )
 
-loop-less-2 : (t : ℕ) → lts.Need-loop-less-2 (called t) (given t) own.Post Inv-loop μ-loop
-loop-less-2 t c = halves t (asked t (c .before .before .before)) true .falls
-
-loop-again-2 : (t : ℕ) → lts.Need-loop-again-2 (called t) (given t) own.Post Inv-loop μ-loop
-loop-again-2 t c =
-    let x = c .before in
-    let j = x .before .before in
-    let d = asked t j in
-    second-next t d (end-at (turn t (parted t d) .loop .from) (x .next .given .0 .0) (front t d) (verdict t j (x .next .given .1)))
-
--- The first part has no padding: it is a run of bits.
-module _ (t : ℕ) (c : lts.Else5 (called t) (given t) own.Post Inv-loop μ-loop) where
-  abbrev divided : lts.Else3 (called t) (given t) own.Post Inv-loop μ-loop
-  divided = c .before .before
-
-  abbrev left-from : ℕ
-  left-from = turn t (parted t divided) .loop .from
-
-  at-first : NodeRead (of t (parted t divided)) (parted t divided .node-at .result .left) (c .before .node-at2 .result)
-  at-first = record { named = halves t divided false .named; reads = c .before .node-at2 .ensures }
-
-sub-if6 : (t : ℕ) → lts.Need-sub-if6 (called t) (given t) own.Post Inv-loop μ-loop
-sub-if6 t c = omega (arith, turn t (parted t (divided t c)) .loop .inv .begins)
-
-returns-5 : (t : ℕ) → lts.Need-returns-5 (called t) (given t) own.Post Inv-loop μ-loop
+returns-5 : (t : ℕ) → lts.Need-returns-5 (called t) (given t) own.Post
 returns-5 t c =
-    let d = divided t (c .before) in
+    let j = c .before .before in
+    let d = j .before in
     let n = parted t d in
+    let a = start t n .args in
     ends t n
-    (first-early t d
-    (decode-short (at-first t (c .before)) (stream t n) (left-from t (c .before)) (c .before .if5 .left) (omega (arith, stream-length t n, c .if6 .taken))))
+    (decode-first-early (here t n) (stream t n) (a .at) (product-padded t d) (d .if3 .left)
+    (end-early (a .at) (front t d) (sym (c .enum-told .given .1) ∙ j .judge-compact2 .ensures)))
 
-add-from-2 : (t : ℕ) → lts.Need-add-from-2 (called t) (given t) own.Post Inv-loop μ-loop
-add-from-2 t c =
-    let n = parted t (divided t (c .before)) in
-    record { fits = omega (arith, turn t n .loop .inv .begins, c .if6 .left, start t n .fits .until .fits) }
+judge-compact-requires-3 : (t : ℕ) → lts.Need-judge-compact-requires-3 (called t) (given t) own.Post
+judge-compact-requires-3 t c κs =
+    let e = c .before in
+    let d = divided t e in
+    let b = start t (parted t d) in
+    let x = halves t d true in
+    (omega (arith, x .falls, b .pre .0), (x .named, (within t e, b .pre .1 .1 .1)))
 
-loop-less-3 : (t : ℕ) → lts.Need-loop-less-3 (called t) (given t) own.Post Inv-loop μ-loop
-loop-less-3 t c = halves t (divided t (c .before)) true .falls
-
-loop-again-3 : (t : ℕ) → lts.Need-loop-again-3 (called t) (given t) own.Post Inv-loop μ-loop
-loop-again-3 t c =
-    let d = divided t (c .before) in
+returns-6 : (t : ℕ) → lts.Need-returns-6 (called t) (given t) own.Post
+returns-6 t c =
+    let e = c .before .before in
+    let d = divided t e in
     let n = parted t d in
-    let from = left-from t (c .before) in
-    let run =
-    decode-run (at-first t (c .before)) (stream t n) from (c .before .if5 .left) (omega (arith, stream-length t n, c .if6 .left)) in
-    second-next t d (end-at from (from + c .before .before .node-at2 .result .width) (front t d) (ap (endOf from) (sym run)))
+    let a = start t n .args in
+    let m = consumed (front t d) in
+    let right = tyAt (of t n .columns) (n .node-at .result .right) in
+    c .judge-compact3 .ensures
+    ∙ ap (λ (k : ℕ). endOf k (decodeCompact right (drop k (stream t n)))) (ended t e .ends)
+    ∙ end-after (a .at) (recordOf (front t d)) m (decodeCompact right (drop (a .at + m) (stream t n)))
+    ∙ ends t n (decode-both (here t n) (stream t n) (a .at) (product-padded t d) (d .if3 .left) (ended t e .whole))
 
 pub +judge-compact-spec : {M : Type 1} → statement M
 +judge-compact-spec =
     close μ
-    λ t. lts.spec (called t) (given t) own.Post Inv-loop μ-loop
-    (loop-holds t)
+    λ t. lts.spec (called t) (given t) own.Post
     (node-at-requires t)
     (sub-if2 t)
     (returns t)
-    (add-t19 t)
+    (add-t15 t)
     (returns-2 t)
     (returns-3 t)
     (bit-at-requires t)
     (side-of-requires t)
-    (add-from t)
-    (loop-less t)
-    (loop-again t)
-    (node-at-requires-2 t)
+    (add-judge-compact t)
     (judge-compact-requires t)
+    (returns-4 t)
+    (judge-compact-requires-2 t)
     (enum-known-next t)
     (enum-told t)
-    (returns-4 t)
-    (sub-if6 t)
     (returns-5 t)
-    (add-from-2 t)
-    (loop-less-2 t)
-    (loop-again-2 t)
-    (loop-less-3 t)
-    (loop-again-3 t)
+    (judge-compact-requires-3 t)
+    (returns-6 t)
