@@ -243,8 +243,3 @@ wordEdges =
 pub wordEdges-hold : map defined wordEdges ≡ map paper wordEdges
 unfolding wordEdges defined paper tableO tableW tableB spare least from same bits width size padded tyTo tyAt classOf firstBad firstBadEntry entryRight factsRight tableIn sevenBitGroups entryFrom entriesFrom odd toBits bitsOf value packTo pack written compact sameBits orderBits decodeCompact decodePadded word wordWidths isWord asWord exponent buffer bufferBits ctx8 ctx8Bits cut ladder recordBits restOf
 wordEdges-hold = refl
-
--- The fixed list is 2 to the n, for n from 0 to 31.
-pub widths-double : wordWidths ≡ map (λ n. 2 ^ n) (from 0 32)
-unfolding wordWidths from
-widths-double = refl

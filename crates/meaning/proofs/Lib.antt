@@ -14,3 +14,4 @@ pub mod Sounds
 pub mod GroupBytes
 pub mod Records
 pub mod Words
+pub mod WordWidths
