@@ -15,7 +15,8 @@ use Rattle.meaning.specs.Types.{Ty, prod, bits}
 use Rattle.meaning.specs.Words.{word, isWord, asWord, joins}
 use Rattle.meaning.proofs.Tests.{and-left, and-right}
 use Rattle.meaning.proofs.Records.{bits-prod}
-use Rattle.shapes.proofs.Words.{isWord-word, asWord-word, bits-word}
+use Rattle.meaning.proofs.Words.{isWord-word, bits-word}
+use Rattle.meaning.proofs.WordNames.{asWord-word}
 
 -- The types of a join: a word twice, and the next word.
 pub join-types : (a b c : Ty) → joins a b c ≡ true → (a ≡ b) × (c ≡ prod a b)

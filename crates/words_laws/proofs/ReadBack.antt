@@ -24,6 +24,7 @@ use Rattle.meaning.specs.Ladder.{accepted, Rung, ladder, Stream, stream-of, rec
 use Rattle.meaning.specs.CodecCalls.{readRungs}
 use Rattle.meaning.specs.WordCalls.{fromRange, numberCall, numberOut, numberRungs, bytesCall, bytesOut, arrayCall, arrayOut, wordReadCall, wordReadOut, wordReadRungs}
 use Rattle.meaning.specs.Checked.{Bytes}
+use Rattle.meaning.proofs.Words.{isWord-word, bits-word}
 use Rattle.bits.proofs.Numbers.{length-toBits, value-toBits}
 use Rattle.bits.proofs.OfBytes.{length-bitsOf}
 use Rattle.bits.proofs.Packed.{pack-bitsOf}
@@ -33,7 +34,6 @@ use Rattle.checked.proofs.Passes.{stream-passes}
 use Rattle.checked.proofs.Made.{Accepted, accepts, made-length, made-record}
 use Rattle.checked.proofs.Read.{done}
 use Rattle.checked.proofs.Shaped.{range-pass, range-accepted}
-use Rattle.shapes.proofs.Words.{isWord-word, bits-word}
 use Rattle.words_laws.proofs.Ranges.{eight-times, exponent-bytes}
 use Rattle.bits.proofs.Lent.{padded-whole, rest-length}
 use Rattle.words_laws.proofs.Streams.{rest-take}

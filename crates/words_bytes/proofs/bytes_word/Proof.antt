@@ -16,9 +16,9 @@ use Rattle.meaning.specs.Bits.{bitsOf, written}
 use Rattle.meaning.specs.Words.{isWord}
 use Rattle.meaning.specs.Ladder.{accepted, Rung, ladder, named, typeAt}
 use Rattle.meaning.specs.WordCalls.{fromRange}
+use Rattle.meaning.proofs.Words.{isWord-word, bits-word}
 use Rattle.bits.proofs.OfBytes.{length-bitsOf}
 use Rattle.checked.proofs.Passed.{named-passed}
-use Rattle.shapes.proofs.Words.{isWord-word, bits-word}
 use Rattle.checked.proofs.Made.{stopped, short, done}
 use Rattle.checked.proofs.Shaped.{range-stop, range-missed, range-shape, range-pass}
 use Rattle.words_bytes.proofs.bytes_word.Statement.{statement}

@@ -13,7 +13,7 @@ use Rattle.meaning.specs.Words.{word, isWord, asWord, joins}
 use Rattle.meaning.specs.Ladder.{typeAt}
 use Rattle.meaning.proofs.Tests.{and-both, and-no-right}
 use Rattle.meaning.proofs.WordWidths.{word-widths-bits}
-use Rattle.shapes.proofs.Words.{asWord-word}
+use Rattle.meaning.proofs.WordNames.{asWord-word}
 use Rattle.words_joins.proofs.half_of.Statement.{statement}
 use Rattle.words_joins.proofs.half_of.Tie as tie
 

@@ -17,9 +17,9 @@ use Rattle.meaning.specs.Ladder.{accepted, Rung, ladder, Stream, stream-of, typ
 use Rattle.meaning.specs.CodecCalls.{readRungs, paddedIn}
 use Rattle.meaning.specs.WordCalls.{wordReadRungs}
 use Rattle.meaning.proofs.WordWidths.{word-widths-bits}
+use Rattle.meaning.proofs.Words.{isWord-word}
 use Rattle.bits.proofs.OfBytes.{length-bitsOf}
 use Rattle.bits.proofs.Runs.{length-run}
-use Rattle.shapes.proofs.Words.{isWord-word}
 use Rattle.checked.specs.Passed.{Streamed}
 use Rattle.checked.proofs.Passes.{stream-passes}
 use Rattle.checked.proofs.Read.{stopped, early, short, done}
