@@ -21,7 +21,7 @@ use borrow.Author.Tests.{lt-ltb, le-ltb, lt-leb}
 use Rattle.meaning.specs.Types.{Ty, unit, sum, prod, bits, size}
 use Rattle.meaning.specs.Tables.{Table}
 use Rattle.meaning.specs.Words.{word}
-use Rattle.meaning.specs.Ladder.{refused, Rung, rung, ladder, typeAt, sound, present, small, named}
+use Rattle.meaning.specs.Ladder.{refused, Rung, rung, ladder, typeAt, widest, largest, sound, present, small, named}
 use Rattle.meaning.specs.Checked.{Sound}
 use Rattle.meaning.proofs.Tests.{or-inl, or-none}
 use Rattle.meaning.proofs.Ladders.{ladder-pass, ladder-holds, ladder-fails, sound-accepted}
@@ -31,38 +31,39 @@ use Rattle.meaning.proofs.Words.{bits-word, size-word}
 module _ (t : Table) (s : Sound t) (n : ℕ) (h : n < t .count) {A : Type 0} (rs : List Rung) (a : A) where
   -- The tests of 3 and 4.
   abbrev wide : Bool
-  wide = ltb 524288 (bits (typeAt t n)) || false
+  wide = ltb widest (bits (typeAt t n))
 
   abbrev large : Bool
-  large = ltb 2097152 (size (typeAt t n)) || false
+  large = ltb largest (size (typeAt t n))
 
   -- 1 and 2 do not apply.
-  here : ladder (named t (n ∷ []) ++ rs) a ≡ ladder (rung wide 3 0 ∷ rung large 4 0 ∷ rs) a
+  here : ladder (named t (n ∷ []) ++ rs) a ≡ ladder (small t (n ∷ []) ++ rs) a
   here =
       ladder-pass (sound t) (present t (n ∷ []) ++ (small t (n ∷ []) ++ rs)) (tt {0}) (tt {0}) a (sound-accepted t s)
       ∙ ladder-fails (leb (t .count) n || false) 2 0 (small t (n ∷ []) ++ rs) a (or-none (leb (t .count) n) false (lt-leb (t .count) n h) refl)
 
-  narrow : bits (typeAt t n) ≤ 524288 → ladder (named t (n ∷ []) ++ rs) a ≡ ladder (rung large 4 0 ∷ rs) a
+  -- Nor does 3.
+  narrow : bits (typeAt t n) ≤ widest → ladder (named t (n ∷ []) ++ rs) a ≡ ladder (rung (large || false) 4 0 ∷ rs) a
   narrow w =
       here
-      ∙ ladder-fails wide 3 0 (rung large 4 0 ∷ rs) a
-      (or-none (ltb 524288 (bits (typeAt t n))) false (le-ltb 524288 (bits (typeAt t n)) w) refl)
+      ∙ ladder-fails (wide || false) 3 0 (rung (large || false) 4 0 ∷ rs) a
+      (or-none wide false (le-ltb widest (bits (typeAt t n)) w) refl)
 
   pub limits-pass : bits (typeAt t n) ≤ 524288 → size (typeAt t n) ≤ 2097152 → ladder (named t (n ∷ []) ++ rs) a ≡ ladder rs a
   limits-pass w z =
-      narrow w
-      ∙ ladder-fails large 4 0 rs a (or-none (ltb 2097152 (size (typeAt t n))) false (le-ltb 2097152 (size (typeAt t n)) z) refl)
+      narrow (omega arith)
+      ∙ ladder-fails (large || false) 4 0 rs a (or-none large false (le-ltb largest (size (typeAt t n)) (omega arith)) refl)
 
   pub wide-refused : 524288 < bits (typeAt t n) → ladder (named t (n ∷ []) ++ rs) a ≡ refused 3 0
   wide-refused w =
       here
-      ∙ ladder-holds wide 3 0 (rung large 4 0 ∷ rs) a
-      (or-inl (ltb 524288 (bits (typeAt t n))) false (lt-ltb 524288 (bits (typeAt t n)) w))
+      ∙ ladder-holds (wide || false) 3 0 (rung (large || false) 4 0 ∷ rs) a
+      (or-inl wide false (lt-ltb widest (bits (typeAt t n)) (omega arith)))
 
   pub large-refused : bits (typeAt t n) ≤ 524288 → 2097152 < size (typeAt t n) → ladder (named t (n ∷ []) ++ rs) a ≡ refused 4 0
   large-refused w z =
-      narrow w
-      ∙ ladder-holds large 4 0 rs a (or-inl (ltb 2097152 (size (typeAt t n))) false (lt-ltb 2097152 (size (typeAt t n)) z))
+      narrow (omega arith)
+      ∙ ladder-holds (large || false) 4 0 rs a (or-inl large false (lt-ltb largest (size (typeAt t n)) (omega arith)))
 
 pub size-odd : (t : Ty) → size t % 2 ≡ 1
 unfolding size
