@@ -10,7 +10,7 @@ use native.Mathlib.Nat.{two-pow-succ}
 use native.Mathlib.Omega.{arith}
 use lib.Pow.{pow-add}
 use Rattle.meaning.specs.Types.{bits}
-use Rattle.meaning.specs.Words.{word, segment, buffer, ctx8}
+use Rattle.meaning.specs.Words.{segment, buffer, ctx8}
 use Rattle.meaning.proofs.Words.{bits-word}
 
 pub bits-segment : (n : ℕ) → bits (segment n) ≡ 1 + 8 * 2 ^ n

@@ -2,7 +2,8 @@
 --
 --   word-isWord isWord-word     `isWord n` holds of word n and of nothing else
 --   isWord-same                 `isWord n` is sameness with word n
---   bits-word width-word        the true width is 2 to the n, and so is the 64-bit one up to n = 31
+--   bits-word isWord-bits       the true width is 2 to the n, of the tree and of whatever passes the test
+--   width-word                  and so is the 64-bit one up to n = 31
 --   size-word padded-word       the size is one less than 2 to the n + 2, below the end, and no word is padded
 --   word-injective              no two n share a tree
 -- Assumes nothing.
@@ -44,6 +45,9 @@ pub bits-word : (n : ℕ) → bits (word n) ≡ 2 ^ n
 unfolding bits word
 bits-word zero = refl
 bits-word (suc n) = ap₂ _+_ (bits-word n) (bits-word n) ∙ sym (two-pow-succ n)
+
+pub isWord-bits : (n : ℕ) (t : Ty) → isWord n t ≡ true → bits t ≡ 2 ^ n
+isWord-bits n t h = ap bits (isWord-word n t h) ∙ bits-word n
 
 pub width-word : (n : ℕ) → n < 32 → width (word n) ≡ 2 ^ n
 width-word n h =
