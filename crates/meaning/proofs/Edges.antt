@@ -211,10 +211,9 @@ wordEdges =
     ∷ sample (count (bufferWidthCall 5)) (count (accepted 510))
     ∷ sample (count (bufferWidthCall 12)) (count (accepted 65541))
     ∷ sample (count (bufferWidthCall 13)) (count (refused 6 0))
-    ∷ sample (flag (isBuffer8Call tableB 6 0)) (flag (accepted true))
     ∷ sample (flag (isBuffer8Call tableB 8 1)) (flag (accepted true))
-    ∷ sample (flag (isBuffer8Call tableB 8 12)) (flag (accepted false))
-    ∷ sample (flag (isBuffer8Call tableB 8 13)) (flag (refused 6 0))
+    ∷ sample (flag (isBuffer8Call tableE 1 12)) (flag (accepted false))
+    ∷ sample (flag (isBuffer8Call tableE 1 13)) (flag (refused 6 0))
     ∷ sample (number (bits ctx8)) (number 830)
     ∷ sample (number (exponent 0)) (number 29)
     ∷ sample (number (exponent 1)) (number 0)
@@ -261,5 +260,5 @@ wordEdges =
     ∷ []
 
 pub wordEdges-hold : map defined wordEdges ≡ map paper wordEdges
-unfolding wordEdges defined paper tableO tableW tableB spare least from same bits width size padded tyTo tyAt classOf firstBad firstBadEntry entryRight factsRight tableIn sevenBitGroups entryFrom entriesFrom odd toBits bitsOf value packTo pack written compact sameBits orderBits decodeCompact decodePadded word wordWidths isWord asWord exponent buffer bufferBits ctx8 ctx8Bits cut ladder recordBits restOf
+unfolding wordEdges defined paper tableE tableO tableW tableB spare least from same bits width size padded tyTo tyAt classOf firstBad firstBadEntry entryRight factsRight tableIn sevenBitGroups entryFrom entriesFrom odd toBits bitsOf value packTo pack written compact sameBits orderBits decodeCompact decodePadded word wordWidths isWord asWord exponent buffer bufferBits ctx8 ctx8Bits cut ladder recordBits restOf
 wordEdges-hold = refl
