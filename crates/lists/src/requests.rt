@@ -18,7 +18,7 @@ pub struct Request {
     pub b_offset: usize,
     pub b_node: usize,
     pub stream: Run,
-    pub length: usize,
+    pub until: usize,
     pub position: u64,
     pub n: u64,
     pub data: Run,
@@ -49,8 +49,8 @@ pub fn request_at(list: &[u8], at: usize) -> Request
     let b_offset = number_at(list, b.next);
     let b_node = number_at(list, b_offset.next);
     let stream = run_at(list, b_node.next);
-    let length = number_at(list, stream.next);
-    let position = number_at(list, length.next);
+    let until = number_at(list, stream.next);
+    let position = number_at(list, until.next);
     let n = number_at(list, position.next);
     let data = run_at(list, n.next);
     let buffer = run_at(list, data.next);
@@ -65,7 +65,7 @@ pub fn request_at(list: &[u8], at: usize) -> Request
         b_offset: b_offset.value as usize,
         b_node: b_node.value as usize,
         stream,
-        length: length.value as usize,
+        until: until.value as usize,
         position: position.value,
         n: n.value,
         data,

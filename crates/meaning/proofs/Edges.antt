@@ -1,7 +1,12 @@
 -- Edges that the marked samples do not reach, computed by the definitions: each would show a wrong reading of document 01, or of
 -- document 02, whose the groups are.
+--
+--   fileEdges tableEdges byteEdges      files; tables; each byte of a group
+--   recordEdges wordEdges               records; words, buffers and the hash state
+--   fileEdges-hold tableEdges-hold byteEdges-hold recordEdges-hold wordEdges-hold       the definitions say what the paper says
 -- Assumes nothing.
 use mathlib.Core.Path.{_≡_, refl}
+use mathlib.Core.Bool.{true, false}
 use mathlib.Core.List.{List, [], _∷_, _++_, map}
 use Prim.Native.Nat.{ℕ, _+_, _^_, _-_, Ordering·lt, Ordering·eq, Ordering·gt}
 use lib.ListN.{length, drop, replicate, getD, set}
@@ -16,13 +21,13 @@ use Rattle.meaning.specs.Codecs.{decodeCompact, decodePadded}
 use Rattle.meaning.specs.Words.{word, wordWidths, isWord, asWord, exponent, buffer, bufferBits, ctx8, ctx8Bits}
 use Rattle.meaning.specs.Cuts.{cut}
 use Rattle.meaning.specs.Ladder.{refused, accepted, ladder, record-of, stream-of, recordBits, restOf}
-use Rattle.meaning.specs.TypeCalls.{groupOf, groupsOf, checkTableCall, fillFactsCall, fillFactsOut, readTableCall, readTableGroupsOut, asWordCall, wordWidthCall, bufferWidthCall}
-use Rattle.meaning.specs.RecordCalls.{asLeftCall, asRightCall, compareCall, paddedLenCall, unitCall, leftOut, noneCall, someOut, productCall, productOut}
+use Rattle.meaning.specs.TypeCalls.{groupOf, groupsOf, checkTableCall, fillFactsCall, fillFactsOut, readTableCall, readTableGroupsOut, padLeftCall, padRightCall, asWordCall, wordWidthCall, bufferWidthCall, isBuffer8Call}
+use Rattle.meaning.specs.RecordCalls.{asLeftCall, asRightCall, asProductCall, equalCall, compareCall, paddedLenCall, unitCall, leftCall, leftOut, rightCall, rightOut, noneCall, someOut, productCall, productOut}
 use Rattle.meaning.specs.CodecCalls.{fromCompactCall, fromPaddedCall, fromPaddedOut, toPaddedOut}
 use Rattle.meaning.specs.WordCalls.{numberCall, numberOut, bytesCall, bytesOut, arrayCall, joinCall, joinOut, wordReadCall, bufferCall, bufferOut, ctx8Call}
 use Rattle.meaning.specs.CutCalls.{pruneCall, pruneOut}
 use Rattle.meaning.specs.OldLayout.{columnsTable, fillColumns}
-use Rattle.meaning.proofs.Sampling.{tableS, tableB, done, count, number, order, place, out, Sample, sample, defined, paper, spare, one}
+use Rattle.meaning.proofs.Sampling.{tableS, tableB, done, flag, count, number, order, place, places, out, Sample, sample, defined, paper, spare, one}
 
 -- Faults of a file, each with its place; a sound file with no room answers 9.
 pub fileEdges : List Sample
@@ -137,7 +142,7 @@ tableP =
     columnsTable (0 ∷ 1 ∷ 2 ∷ 1 ∷ 2 ∷ []) (0 ∷ 0 ∷ 1 ∷ 1 ∷ 3 ∷ []) (0 ∷ 0 ∷ 1 ∷ 2 ∷ 1 ∷ []) (0 ∷ 1 ∷ 2 ∷ 3 ∷ 4 ∷ []) (1 ∷ 3 ∷ 7 ∷ 11 ∷ 15 ∷ [])
     (0 ∷ 0 ∷ 0 ∷ 1 ∷ 1 ∷ []) (0 ∷ 1 ∷ 2 ∷ 3 ∷ 4 ∷ []) 5
 
--- Bounds, views, order, constructors, both codecs and cuts at their edges.
+-- Bounds, views, equality and order, padding, constructors, both codecs and cuts at their edges.
 pub recordEdges : List Sample
 recordEdges =
     sample (count (paddedLenCall tableE (record-of [] 0 0))) (count (accepted 0))
@@ -176,10 +181,21 @@ recordEdges =
     ∷ sample (count (pruneCall tableE (one 0x00 1) 0 [])) (count (accepted 0))
     ∷ sample (out (pruneOut tableP (one 0xF0 4) 4 spare)) (out (0xF0 ∷ 0xFF ∷ []))
     ∷ sample (count (pruneCall tableP (one 0x70 4) 5 spare)) (count (refused 2 0))
+    ∷ sample (flag (equalCall tableS (one 0x80 1) (one 0x00 1))) (flag (accepted false))
+    ∷ sample (flag (equalCall tableS (one 0x80 3) (one 0x80 8))) (flag (accepted false))
+    ∷ sample (place (asRightCall tableS (one 0xC0 5))) (place (accepted (record { offset = 1; node = 4 })))
+    ∷ sample (place (asRightCall tableS (one 0x80 8))) (place (accepted (record { offset = 2; node = 0 })))
+    ∷ sample (places (asProductCall tableS (one 0x30 7)))
+    (places (accepted (record { first = record { offset = 0; node = 5 }; second = record { offset = 3; node = 1 } })))
+    ∷ sample (count (leftCall tableS (one 0x80 3) 5 spare)) (count (refused 7 0))
+    ∷ sample (count (rightCall tableS (one 0xC0 4) 5 spare)) (count (accepted 3))
+    ∷ sample (out (rightOut tableS (one 0xC0 4) 5 spare)) (out (0xE0 ∷ 0xFF ∷ []))
+    ∷ sample (count (padLeftCall tableS 1 4)) (count (accepted 1))
+    ∷ sample (count (padRightCall tableS 1 4)) (count (accepted 0))
     ∷ []
 
 pub recordEdges-hold : map defined recordEdges ≡ map paper recordEdges
-unfolding recordEdges defined paper tableE tableO tableP spare least from same bits width size padded tyTo tyAt classOf firstBad firstBadEntry entryRight factsRight tableIn sevenBitGroups entryFrom entriesFrom odd toBits bitsOf value packTo pack written compact sameBits orderBits decodeCompact decodePadded word wordWidths isWord asWord exponent buffer bufferBits ctx8 ctx8Bits cut ladder recordBits restOf
+unfolding recordEdges defined paper tableS tableE tableO tableP spare least from same bits width size padded tyTo tyAt classOf firstBad firstBadEntry entryRight factsRight tableIn sevenBitGroups entryFrom entriesFrom odd toBits bitsOf value packTo pack written compact sameBits orderBits decodeCompact decodePadded word wordWidths isWord asWord exponent buffer bufferBits ctx8 ctx8Bits cut ladder recordBits restOf
 recordEdges-hold = refl
 
 -- The words of table B alone.
@@ -195,6 +211,9 @@ wordEdges =
     ∷ sample (count (bufferWidthCall 5)) (count (accepted 510))
     ∷ sample (count (bufferWidthCall 12)) (count (accepted 65541))
     ∷ sample (count (bufferWidthCall 13)) (count (refused 6 0))
+    ∷ sample (flag (isBuffer8Call tableB 8 1)) (flag (accepted true))
+    ∷ sample (flag (isBuffer8Call tableE 1 12)) (flag (accepted false))
+    ∷ sample (flag (isBuffer8Call tableE 1 13)) (flag (refused 6 0))
     ∷ sample (number (bits ctx8)) (number 830)
     ∷ sample (number (exponent 0)) (number 29)
     ∷ sample (number (exponent 1)) (number 0)
@@ -241,10 +260,5 @@ wordEdges =
     ∷ []
 
 pub wordEdges-hold : map defined wordEdges ≡ map paper wordEdges
-unfolding wordEdges defined paper tableO tableW tableB spare least from same bits width size padded tyTo tyAt classOf firstBad firstBadEntry entryRight factsRight tableIn sevenBitGroups entryFrom entriesFrom odd toBits bitsOf value packTo pack written compact sameBits orderBits decodeCompact decodePadded word wordWidths isWord asWord exponent buffer bufferBits ctx8 ctx8Bits cut ladder recordBits restOf
+unfolding wordEdges defined paper tableE tableO tableW tableB spare least from same bits width size padded tyTo tyAt classOf firstBad firstBadEntry entryRight factsRight tableIn sevenBitGroups entryFrom entriesFrom odd toBits bitsOf value packTo pack written compact sameBits orderBits decodeCompact decodePadded word wordWidths isWord asWord exponent buffer bufferBits ctx8 ctx8Bits cut ladder recordBits restOf
 wordEdges-hold = refl
-
--- The fixed list is 2 to the n, for n from 0 to 31.
-pub widths-double : wordWidths ≡ map (λ n. 2 ^ n) (from 0 32)
-unfolding wordWidths from
-widths-double = refl

@@ -14,4 +14,9 @@ pub mod Refusals
 pub mod Sounds
 pub mod GroupBytes
 pub mod Records
+pub mod Powers
 pub mod Words
+pub mod WordWidths
+pub mod WordNames
+pub mod Buffers
+pub mod Limits

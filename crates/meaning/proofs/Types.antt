@@ -1,6 +1,7 @@
 -- Laws of types and their facts.
 --
 --   same-refl same-eq eq-same       equal types are the same tree
+--   same-comm                       sameness goes both ways
 --   width-bits                      the 64-bit width is the true one, stopped at the end
 --   bits-width                      below the end they are the same
 --   width-top size-top              facts fit 64 bits
@@ -35,6 +36,18 @@ same-eq (prod a b) (prod c d) h =
 
 pub eq-same : (a b : Ty) → a ≡ b → same a b ≡ true
 eq-same a b e = subst (λ (t : Ty). same a t ≡ true) e (same-refl a)
+
+pub same-comm : (a b : Ty) → same a b ≡ same b a
+unfolding same
+same-comm unit unit = refl
+same-comm unit (sum c d) = refl
+same-comm unit (prod c d) = refl
+same-comm (sum a b) unit = refl
+same-comm (sum a b) (sum c d) = ap₂ _&&_ (same-comm a c) (same-comm b d)
+same-comm (sum a b) (prod c d) = refl
+same-comm (prod a b) unit = refl
+same-comm (prod a b) (sum c d) = refl
+same-comm (prod a b) (prod c d) = ap₂ _&&_ (same-comm a c) (same-comm b d)
 
 -- Stopping once at the end is stopping at each addition.
 stop-sum : (a b x y : ℕ) → x ≡ min a top → y ≡ min b top → stop 1 (max x y) ≡ min (1 + max a b) top

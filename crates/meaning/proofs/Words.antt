@@ -1,53 +1,75 @@
--- Words once over n: their widths and sizes, and the limits that the ladder sets by them.
+-- Word types, shown once over n.
 --
---   bits-word size-word         2 to the n bits; one less than 2 to the n + 2 nodes, below the end
---   word-exact exact-word       a type is word n by the test exactly if it is that tree
---   nineteen-fits twenty-wide   word type 19 is within both limits, and 20 is not
+--   word-isWord isWord-word     `isWord n` holds of word n and of nothing else
+--   isWord-same                 `isWord n` is sameness with word n
+--   bits-word isWord-bits       the true width is 2 to the n, of the tree and of whatever passes the test
+--   width-word                  and so is the 64-bit one up to n = 31
+--   size-word padded-word       the size is one less than 2 to the n + 2, below the end, and no word is padded
+--   word-injective              no two n share a tree
 -- Assumes nothing.
-use Prim.Native.Nat.{ℕ, zero, suc, _+_, _*_, _-_, _^_, _≤_, _<_}
-use mathlib.Core.Path.{_≡_, refl, ap, ap₂, sym, _∙_, subst}
-use mathlib.Core.Bool.{Bool, true, false, _&&_, false≢true}
+use Prim.Native.Nat.{ℕ, zero, suc, _+_, _*_, _^_, _≤_, _<_}
+use mathlib.Core.Path.{_≡_, refl, ap, ap₂, sym, _∙_}
+use mathlib.Core.Bool.{true, false, _&&_, false≢true}
+use native.Mathlib.Nat.{two-pow-succ, le-of-lt}
 use native.Mathlib.Omega.{arith}
-use native.Mathlib.Nat.{pow-succ'}
 use lib.Pow.{pow-mono}
-use Rattle.meaning.specs.Types.{Ty, unit, sum, prod, same, bits, size, top, stop}
+use Rattle.meaning.specs.Types.{Ty, unit, sum, prod, same, bits, width, size, padded}
 use Rattle.meaning.specs.Words.{two, word, isWord}
-use Rattle.meaning.specs.Ladder.{widest, largest}
-use Rattle.meaning.proofs.Tests.{and-left, and-right, and-both}
-use Rattle.meaning.proofs.Types.{same-eq, same-refl}
+use Rattle.meaning.proofs.Tests.{and-left, and-right, and-both, or-none}
+use Rattle.meaning.proofs.Types.{same-refl, same-eq, same-comm, width-bits}
+use Rattle.meaning.proofs.Powers.{pow-injective}
 
-double : (n : ℕ) → 2 ^ suc n ≡ 2 ^ n + 2 ^ n
-double n = let e = pow-succ' 2 n in omega arith
+pub word-isWord : (n : ℕ) → isWord n (word n) ≡ true
+unfolding isWord word
+word-isWord zero = same-refl two
+word-isWord (suc n) = and-both (isWord n (word n)) (isWord n (word n)) (word-isWord n) (word-isWord n)
+
+pub isWord-word : (n : ℕ) (t : Ty) → isWord n t ≡ true → t ≡ word n
+unfolding isWord word
+isWord-word zero t h = sym (same-eq two t h)
+isWord-word (suc n) unit h = absurd (false≢true h)
+isWord-word (suc n) (sum a b) h = absurd (false≢true h)
+isWord-word (suc n) (prod a b) h =
+    ap₂ prod (isWord-word n a (and-left (isWord n a) (isWord n b) h)) (isWord-word n b (and-right (isWord n a) (isWord n b) h))
+
+pub isWord-same : (n : ℕ) (t : Ty) → isWord n t ≡ same t (word n)
+unfolding isWord word same
+isWord-same zero unit = refl
+isWord-same zero (sum a b) = ap₂ _&&_ (same-comm unit a) (same-comm unit b)
+isWord-same zero (prod a b) = refl
+isWord-same (suc n) unit = refl
+isWord-same (suc n) (sum a b) = refl
+isWord-same (suc n) (prod a b) = ap₂ _&&_ (isWord-same n a) (isWord-same n b)
 
 pub bits-word : (n : ℕ) → bits (word n) ≡ 2 ^ n
 unfolding bits word
 bits-word zero = refl
-bits-word (suc n) = let h = bits-word n in let d = double n in omega arith
+bits-word (suc n) = ap₂ _+_ (bits-word n) (bits-word n) ∙ sym (two-pow-succ n)
 
+pub isWord-bits : (n : ℕ) (t : Ty) → isWord n t ≡ true → bits t ≡ 2 ^ n
+isWord-bits n t h = ap bits (isWord-word n t h) ∙ bits-word n
+
+pub width-word : (n : ℕ) → n < 32 → width (word n) ≡ 2 ^ n
+width-word n h =
+    let w = width-bits (word n) in
+    let b = bits-word n in
+    let p : 2 ^ n ≤ 2 ^ 32 = pow-mono (le-of-lt h) in
+    omega arith
+
+-- One more than the size doubles with each square.
 pub size-word : (n : ℕ) → n ≤ 61 → size (word n) + 1 ≡ 4 * 2 ^ n
 unfolding size word
 size-word zero l = refl
 size-word (suc n) l =
     let h = size-word n (omega arith) in
-    let d = double n in
+    let d = two-pow-succ n in
     let m : 2 ^ suc n ≤ 2 ^ 61 = pow-mono l in
     omega arith
 
-pub word-exact : (n : ℕ) (t : Ty) → isWord n t ≡ true → t ≡ word n
-unfolding isWord word
-word-exact zero t h = sym (same-eq two t h)
-word-exact (suc n) unit h = absurd (false≢true h)
-word-exact (suc n) (sum a b) h = absurd (false≢true h)
-word-exact (suc n) (prod a b) h =
-    ap₂ prod (word-exact n a (and-left (isWord n a) (isWord n b) h)) (word-exact n b (and-right (isWord n a) (isWord n b) h))
+pub padded-word : (n : ℕ) → padded (word n) ≡ false
+unfolding padded word width
+padded-word zero = refl
+padded-word (suc n) = or-none (padded (word n)) (padded (word n)) (padded-word n) (padded-word n)
 
-pub exact-word : (n : ℕ) → isWord n (word n) ≡ true
-unfolding isWord word
-exact-word zero = same-refl two
-exact-word (suc n) = and-both (isWord n (word n)) (isWord n (word n)) (exact-word n) (exact-word n)
-
-pub nineteen-fits : (bits (word 19) ≡ widest) × (size (word 19) ≤ largest)
-nineteen-fits = (bits-word 19, let h = size-word 19 (omega arith) in omega arith)
-
-pub twenty-wide : widest < bits (word 20)
-twenty-wide = let h = bits-word 20 in omega arith
+pub word-injective : (m n : ℕ) → word m ≡ word n → m ≡ n
+word-injective m n e = pow-injective m n (sym (bits-word m) ∙ ap bits e ∙ bits-word n)

@@ -44,7 +44,7 @@ pub(crate) fn joins(
             groups,
             count,
             run_bytes(list, q.stream),
-            q.length,
+            q.until,
             position,
             q.n as usize,
             q.node,

@@ -6,21 +6,21 @@ fn report_of(fd: i32) {
     let mut file = [0u8; 5123];
     let n = io::read_full(fd, &mut file);
     let mut out = [0u8; 98336];
-    let length = reports::report_file(&file[..n], &mut out);
-    io::write_all(STDOUT_FILENO, &out[..length]);
+    let filled = reports::report_file(&file[..n], &mut out);
+    io::write_all(STDOUT_FILENO, &out[..filled]);
 }
 
 // The report of the file that an argument names.
 fn report_arg(i: usize) {
     let mut path = io::buffer();
-    let length = os::arg(i, &mut path);
+    let named = os::arg(i, &mut path);
     if os::errno() != 0 {
         os::fail(b"argument");
         return;
     }
-    let fd = os::open_read(&path[..length]);
+    let fd = os::open_read(&path[..named]);
     if fd < 0 {
-        os::fail(&path[..length]);
+        os::fail(&path[..named]);
         return;
     }
     report_of(fd);

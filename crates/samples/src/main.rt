@@ -117,17 +117,17 @@ fn replay_file(fd: i32) {
 // Replays the file that an argument names.
 fn replay_arg(i: usize) {
     let mut path = io::buffer();
-    let length = os::arg(i, &mut path);
+    let named = os::arg(i, &mut path);
     if os::errno() != 0 {
         os::fail(b"argument");
         return;
     }
-    let fd = os::open_read(&path[..length]);
+    let fd = os::open_read(&path[..named]);
     if fd < 0 {
-        os::fail(&path[..length]);
+        os::fail(&path[..named]);
         return;
     }
-    io::write_all(STDOUT_FILENO, &path[..length]);
+    io::write_all(STDOUT_FILENO, &path[..named]);
     io::write_all(STDOUT_FILENO, b"\n");
     replay_file(fd);
     libc::close(fd);

@@ -1,6 +1,2 @@
--- The facts of word, buffer and hash state types, shown once over n.
-pub mod Powers
-pub mod Words
-pub mod Widths
-pub mod Buffers
+-- Tests of word, buffer and hash state types on a node that was read.
 pub mod Shapes

@@ -17,9 +17,9 @@ use Rattle.meaning.specs.Types.{Ty, unit, sum, prod, same}
 use Rattle.meaning.specs.Tables.{Table, node, tyAt}
 use Rattle.meaning.specs.Words.{word, isWord, segment, buffer, ctx8}
 use Rattle.meaning.proofs.Tests.{and-left, and-right, and-no-right}
+use Rattle.meaning.proofs.Words.{isWord-word, isWord-same}
 use Rattle.nodes.specs.Reading.{Reads}
 use Rattle.nodes.specs.declared.Node.{Node}
-use Rattle.shapes.proofs.Words.{isWord-word, isWord-same}
 
 -- The test of a kind against unit, and what a kind other than 1 or 2 leaves.
 test-unit : (k : ℕ) (a b : Ty) → same (node k a b) unit ≡ eqb k 0

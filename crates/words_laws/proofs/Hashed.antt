@@ -5,24 +5,20 @@
 --   state-whole                 the three parts, written one after the other
 -- Assumes nothing.
 use Prim.Native.Nat.{ℕ}
-use mathlib.Core.Path.{_≡_, refl, sym, ap, _∙_}
+use mathlib.Core.Path.{_≡_, sym, ap, _∙_}
 use mathlib.Core.Bool.{Bool}
 use mathlib.Core.List.{List, _++_}
 use native.Mathlib.Nat.{le-of-eq}
 use native.Mathlib.Omega.{arith}
 use lib.ListN.{length, take, drop, length-append}
 use lib.Seq.{paste, take-all, take-at, drop-at, drop-drop}
-use Rattle.meaning.specs.Types.{bits}
 use Rattle.meaning.specs.Bits.{toBits, bitsOf}
-use Rattle.meaning.specs.Words.{word, buffer, bufferBits, HashState, ctx8Bits}
+use Rattle.meaning.specs.Words.{bufferBits, HashState, ctx8Bits}
+use Rattle.meaning.proofs.Buffers.{buffer-five}
 use Rattle.bits.proofs.Numbers.{length-toBits}
 use Rattle.bits.proofs.OfBytes.{length-bitsOf}
 use Rattle.words_laws.proofs.Pieces.{paste-start, paste-part}
 use Rattle.words_laws.proofs.Parts.{length-buffer}
-
-pub buffer-five : bits (buffer 5) ≡ 510
-unfolding bits buffer word
-buffer-five = refl
 
 module _ (s : HashState) where
   -- The data that the buffer holds.

@@ -15,7 +15,8 @@ use Rattle.meaning.specs.Types.{Ty, prod, bits}
 use Rattle.meaning.specs.Words.{word, isWord, asWord, joins}
 use Rattle.meaning.proofs.Tests.{and-left, and-right}
 use Rattle.meaning.proofs.Records.{bits-prod}
-use Rattle.shapes.proofs.Words.{isWord-word, asWord-word, bits-word}
+use Rattle.meaning.proofs.Words.{isWord-word, isWord-bits}
+use Rattle.meaning.proofs.WordNames.{asWord-word, asWord-isWord}
 
 -- The types of a join: a word twice, and the next word.
 pub join-types : (a b c : Ty) → joins a b c ≡ true → (a ≡ b) × (c ≡ prod a b)
@@ -38,7 +39,7 @@ join-width a b c h =
     let same-word = isWord (asWord a) b in
     let front = and-left (small && same-word) (isWord (suc (asWord a)) c) h in
     let low : asWord a < 31 = ltb-true (asWord a) 31 (and-left small same-word front) in
-    let e : bits a ≡ 2 ^ asWord a = ap bits (asWord-word a (omega arith)) ∙ bits-word (asWord a) in
+    let e : bits a ≡ 2 ^ asWord a = isWord-bits (asWord a) a (asWord-isWord a (omega arith)) in
     let p = pow-pos (asWord a) in
     omega arith
 

@@ -25,7 +25,7 @@ use Rattle.meaning.specs.Bits.{odd, bitsOf, zeros}
 use Rattle.meaning.specs.Words.{segmentBits, afterSegment, buffer, bufferBits}
 use Rattle.bits.proofs.OfBytes.{length-bitsOf, take-bitsOf}
 use Rattle.meaning.proofs.Pasted.{paste-take, paste-append, set-as-paste}
-use Rattle.shapes.proofs.Buffers.{bits-segment, bits-buffer}
+use Rattle.meaning.proofs.Buffers.{bits-segment, bits-buffer}
 use Rattle.words_laws.specs.Segments.{heldBy}
 use Rattle.words_laws.proofs.Pieces.{paste-part}
 

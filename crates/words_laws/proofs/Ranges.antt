@@ -15,7 +15,7 @@ use lib.Count.{trailingZeros}
 use borrow.Author.Tests.{lt-ltb, le-ltb, eqb-true, eq-eqb, ne-eqb}
 use Rattle.meaning.specs.Words.{exponent}
 use Rattle.meaning.proofs.Choices.{least-le, least-passes, least-unique}
-use Rattle.shapes.proofs.Powers.{pow-injective, trailing-pow}
+use Rattle.meaning.proofs.Powers.{pow-injective, trailing-pow}
 
 pub shifted-in : (x w : ℕ) → x / 2 ^ w ≡ 0 → ltb x (2 ^ w) ≡ true
 shifted-in x w e =

@@ -24,6 +24,7 @@ use Rattle.meaning.specs.Ladder.{accepted, Rung, ladder, Stream, stream-of, rec
 use Rattle.meaning.specs.CodecCalls.{readRungs}
 use Rattle.meaning.specs.WordCalls.{fromRange, numberCall, numberOut, numberRungs, bytesCall, bytesOut, arrayCall, arrayOut, wordReadCall, wordReadOut, wordReadRungs}
 use Rattle.meaning.specs.Checked.{Bytes}
+use Rattle.meaning.proofs.Words.{isWord-bits}
 use Rattle.bits.proofs.Numbers.{length-toBits, value-toBits}
 use Rattle.bits.proofs.OfBytes.{length-bitsOf}
 use Rattle.bits.proofs.Packed.{pack-bitsOf}
@@ -33,7 +34,6 @@ use Rattle.checked.proofs.Passes.{stream-passes}
 use Rattle.checked.proofs.Made.{Accepted, accepts, made-length, made-record}
 use Rattle.checked.proofs.Read.{done}
 use Rattle.checked.proofs.Shaped.{range-pass, range-accepted}
-use Rattle.shapes.proofs.Words.{isWord-word, bits-word}
 use Rattle.words_laws.proofs.Ranges.{eight-times, exponent-bytes}
 use Rattle.bits.proofs.Lent.{padded-whole, rest-length}
 use Rattle.words_laws.proofs.Streams.{rest-take}
@@ -70,7 +70,7 @@ module _ (t : Table) (result n : ℕ) (r : Bool) (bs out : List ℕ) (w : ℕ) (
   whole = named-passed t (result ∷ []) (passed .0) .1 .0
 
   power : bits (typeAt t result) ≡ 2 ^ n
-  power = ap bits (isWord-word n (typeAt t result) (passed .2)) ∙ bits-word n
+  power = isWord-bits n (typeAt t result) (passed .2)
 
   wide : bits (typeAt t result) ≡ length (bitsOf bs)
   wide = power ∙ sym (f (passed .1)) ∙ sym (length-bitsOf bs)
@@ -161,7 +161,7 @@ number-read-back t n x result out w h =
     let passed =
     range-accepted (named t (result ∷ [])) (ltb x (2 ^ (2 ^ n))) (isWord n (typeAt t result)) (accepts rs v out w h .clear) in
     let wide : bits (typeAt t result) ≡ length v =
-    ap bits (isWord-word n (typeAt t result) (passed .2)) ∙ bits-word n ∙ sym (length-toBits (2 ^ n) x) in
+    isWord-bits n (typeAt t result) (passed .2) ∙ sym (length-toBits (2 ^ n) x) in
     ap (value (2 ^ n)) (made-record t result rs v out w h wide)
     ∙ value-toBits (2 ^ n) x
     ∙ mod-eq-of-lt (ltb-true x (2 ^ (2 ^ n)) (passed .1))

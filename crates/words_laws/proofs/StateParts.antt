@@ -21,17 +21,17 @@ use Rattle.meaning.specs.WordCalls.{ctx8Call, ctx8Out, ctx8Rungs}
 use Rattle.meaning.specs.Checked.{Bytes}
 use Rattle.meaning.proofs.Types.{same-eq}
 use Rattle.meaning.proofs.Records.{bits-prod}
+use Rattle.meaning.proofs.Words.{bits-word}
+use Rattle.meaning.proofs.Buffers.{buffer-five, bits-ctx8}
 use Rattle.bits.proofs.Numbers.{toBits-injective}
 use Rattle.bits.proofs.OfBytes.{bitsOf-injective, bytes-take}
 use Rattle.checked.specs.Passed.{Named}
 use Rattle.checked.proofs.Passed.{named-passed}
 use Rattle.checked.proofs.Made.{Accepted, accepts, made-length, made-record}
 use Rattle.checked.proofs.Shaped.{range-accepted}
-use Rattle.shapes.proofs.Words.{bits-word}
-use Rattle.shapes.proofs.Buffers.{bits-ctx8}
 use Rattle.words_laws.proofs.Distinct.{buffer-injective}
 use Rattle.words_laws.proofs.Halves.{places}
-use Rattle.words_laws.proofs.Hashed.{buffer-five, length-state, state-buffer, state-count, state-midstate}
+use Rattle.words_laws.proofs.Hashed.{length-state, state-buffer, state-count, state-midstate}
 use Rattle.words_laws.proofs.Views.{sides-of-product, right-named, product-seen, left-bits, right-bits}
 
 -- The three parts of a hash state in an output: the views that lead to them, and their bits.

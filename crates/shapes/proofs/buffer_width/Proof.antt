@@ -4,8 +4,8 @@ use mathlib.Core.Path.{_≡_, _∙_}
 use native.Mathlib.Omega.{arith}
 use borrow.Author.Needs.{needs}
 use lib.Pow.{pow-mono}
-use Rattle.shapes.proofs.Widths.{word-widths}
-use Rattle.shapes.proofs.Buffers.{bits-buffer}
+use Rattle.meaning.proofs.WordWidths.{word-widths}
+use Rattle.meaning.proofs.Buffers.{bits-buffer}
 use Rattle.shapes.proofs.buffer_width.Statement.{statement}
 use Rattle.shapes.proofs.buffer_width.Tie as tie
 

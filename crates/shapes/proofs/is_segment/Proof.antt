@@ -7,7 +7,7 @@ use borrow.Author.Tests.{eq-eqb, ne-eqb}
 use Rattle.meaning.specs.Types.{unit, same}
 use Rattle.meaning.specs.Tables.{Table, table, tyAt}
 use Rattle.meaning.specs.Words.{word}
-use Rattle.shapes.proofs.Words.{isWord-same}
+use Rattle.meaning.proofs.Words.{isWord-same}
 use Rattle.shapes.proofs.Shapes.{read-unit, read-sum, read-no-sum}
 use Rattle.shapes.proofs.is_segment.Statement.{statement}
 use Rattle.shapes.proofs.is_segment.Tie as tie

@@ -6,7 +6,7 @@ use borrow.Author.Needs.{needs}
 use Rattle.meaning.specs.Tables.{Table, table, columns, tyAt}
 use Rattle.meaning.specs.Words.{isWord, two}
 use Rattle.meaning.proofs.Trees.{tree-class, class-trees}
-use Rattle.shapes.proofs.Words.{same-comm}
+use Rattle.meaning.proofs.Types.{same-comm}
 use Rattle.shapes.proofs.Shapes.{read-no-word, read-square, read-uneven}
 use Rattle.shapes.proofs.is_word.Statement.{statement}
 use Rattle.shapes.proofs.is_word.Tie as tie

@@ -9,7 +9,7 @@ use Rattle.meaning.specs.Types.{Ty, width}
 use Rattle.meaning.specs.Words.{isWord, asWord}
 use Rattle.meaning.proofs.Sounds.{sound-width}
 use Rattle.meaning.proofs.GroupLaws.{sound-group}
-use Rattle.shapes.proofs.Words.{asWord-is, asWord-isWord, asWord-else, asWord-ones, asWord-zeros}
+use Rattle.meaning.proofs.WordNames.{asWord-is, asWord-isWord, asWord-else, asWord-ones, asWord-zeros}
 use Rattle.shapes.proofs.word_of.Statement.{statement}
 use Rattle.shapes.proofs.word_of.Tie as tie
 

@@ -19,9 +19,9 @@ use Rattle.meaning.specs.Words.{buffer, bufferBits}
 use Rattle.meaning.specs.Ladder.{accepted, Rung, ladder, named, typeAt}
 use Rattle.meaning.specs.WordCalls.{bufferRungs}
 use Rattle.meaning.proofs.Tests.{and-both, and-no-right}
+use Rattle.meaning.proofs.WordWidths.{word-widths}
 use Rattle.bits.proofs.OfBytes.{are-bytes}
 use Rattle.bits.proofs.Packed.{finished}
-use Rattle.shapes.proofs.Widths.{word-widths}
 use Rattle.checked.proofs.Passes.{named-passes}
 use Rattle.checked.proofs.Made.{stopped, short, done}
 use Rattle.checked.proofs.Shaped.{range-missed, range-shape, range-pass}

@@ -16,9 +16,9 @@ use Rattle.meaning.specs.Bits.{bitsOf, written}
 use Rattle.meaning.specs.Words.{isWord}
 use Rattle.meaning.specs.Ladder.{accepted, Rung, ladder, named, typeAt}
 use Rattle.meaning.specs.WordCalls.{fromRange}
+use Rattle.meaning.proofs.Words.{isWord-bits}
 use Rattle.bits.proofs.OfBytes.{length-bitsOf}
 use Rattle.checked.proofs.Passed.{named-passed}
-use Rattle.shapes.proofs.Words.{isWord-word, bits-word}
 use Rattle.checked.proofs.Made.{stopped, short, done}
 use Rattle.checked.proofs.Shaped.{range-stop, range-missed, range-shape, range-pass}
 use Rattle.words_bytes.proofs.bytes_word.Statement.{statement}
@@ -63,8 +63,7 @@ narrow : (c : tie.Else2) → 8 * length (start (c .before .before .before) .args
 narrow c =
     let s = start (c .before .before .before) in
     let p = named-passed (of s) (s .args .result ∷ []) (passed (c .before .before .before)) .1 .0 .narrow in
-    let b : bits (typeAt (of s) (s .args .result)) ≡ 2 ^ (s .args .n) =
-    ap bits (isWord-word (s .args .n) (typeAt (of s) (s .args .result)) (is-right c)) ∙ bits-word (s .args .n) in
+    let b : bits (typeAt (of s) (s .args .result)) ≡ 2 ^ (s .args .n) = isWord-bits (s .args .n) (typeAt (of s) (s .args .result)) (is-right c) in
     let e = s .pre (in-range (c .before .before)) in
     omega arith
 

@@ -11,7 +11,7 @@ use Rattle.meaning.specs.Bits.{bitsOf}
 use Rattle.meaning.specs.Words.{isWord}
 use Rattle.meaning.specs.Ladder.{makes, made, typeAt}
 use Rattle.meaning.specs.WordCalls.{fromRange}
-use Rattle.shapes.proofs.Widths.{word-widths}
+use Rattle.meaning.proofs.WordWidths.{word-widths}
 use Rattle.words_laws.proofs.Ranges.{eight-times}
 use Rattle.words_bytes.proofs.fixed_word.Statement.{statement}
 use Rattle.words_bytes.proofs.fixed_word.Tie as tie

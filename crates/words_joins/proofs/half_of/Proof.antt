@@ -1,5 +1,5 @@
 -- `words_joins::half_of` meets its contract: the three tests of a join, and the width of a word. Assumes nothing.
-use Prim.Native.Nat.{ℕ, suc, _^_, _<_}
+use Prim.Native.Nat.{ℕ, suc, _<_}
 use mathlib.Core.Path.{_≡_, sym, ap, _∙_}
 use mathlib.Core.Bool.{Bool, true, false, cond, _&&_}
 use native.Mathlib.Numerals.{add-one}
@@ -9,11 +9,11 @@ use borrow.Author.Needs.{needs}
 use borrow.Author.Tests.{lt-ltb, le-ltb, not-true, not-false}
 use Rattle.meaning.specs.Types.{Ty, bits}
 use Rattle.meaning.specs.Tables.{Table, table}
-use Rattle.meaning.specs.Words.{isWord, asWord, joins}
+use Rattle.meaning.specs.Words.{word, isWord, asWord, joins}
 use Rattle.meaning.specs.Ladder.{typeAt}
 use Rattle.meaning.proofs.Tests.{and-both, and-no-right}
-use Rattle.shapes.proofs.Words.{asWord-word, bits-word}
-use Rattle.shapes.proofs.Widths.{word-widths}
+use Rattle.meaning.proofs.WordWidths.{word-widths-bits}
+use Rattle.meaning.proofs.WordNames.{asWord-word}
 use Rattle.words_joins.proofs.half_of.Statement.{statement}
 use Rattle.words_joins.proofs.half_of.Tie as tie
 
@@ -104,9 +104,9 @@ returns-4 c =
     let l = c .before .before .before .before .before .if1 .left in
     let low : asWord (first s) < 32 = omega arith in
     c .word-width .ensures
-    ∙ word-widths n (omega arith)
-    ∙ ap (λ (k : ℕ). 2 ^ k) e
-    ∙ sym (ap bits (asWord-word (first s) low) ∙ bits-word (asWord (first s)))
+    ∙ word-widths-bits n (omega arith)
+    ∙ ap (λ (k : ℕ). bits (word k)) e
+    ∙ sym (ap bits (asWord-word (first s) low))
     ∙ answers s true
     (and-both (small s && alike s) (next s)
     (and-both (small s) (alike s) (is-small (c .before .before .before .before .before)) (sym (is-alike (c .before .before .before .before)) ∙ not-false (c .before .before .before .before .is-word .result) (c .before .before .before .if2 .left)))

@@ -14,9 +14,9 @@ use Rattle.meaning.specs.Bits.{toBits, written}
 use Rattle.meaning.specs.Words.{isWord}
 use Rattle.meaning.specs.Ladder.{accepted, Rung, ladder, named, typeAt}
 use Rattle.meaning.specs.WordCalls.{numberRungs}
+use Rattle.meaning.proofs.WordWidths.{word-widths}
 use Rattle.bits.proofs.Numbers.{length-toBits}
 use Rattle.checked.proofs.Passed.{named-passed}
-use Rattle.shapes.proofs.Widths.{word-widths}
 use Rattle.words_laws.proofs.Ranges.{shifted-in, shifted-out}
 use Rattle.checked.proofs.Made.{stopped, short, done}
 use Rattle.checked.proofs.Shaped.{range-stop, range-missed, range-shape, range-pass}

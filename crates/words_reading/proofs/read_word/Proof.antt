@@ -16,10 +16,10 @@ use Rattle.meaning.specs.Codecs.{Decoded, decoded, isEarly, recordOf, consumed}
 use Rattle.meaning.specs.Ladder.{accepted, Rung, ladder, Stream, stream-of, typeAt}
 use Rattle.meaning.specs.CodecCalls.{readRungs, paddedIn}
 use Rattle.meaning.specs.WordCalls.{wordReadRungs}
+use Rattle.meaning.proofs.WordWidths.{word-widths-bits}
+use Rattle.meaning.proofs.Words.{isWord-word}
 use Rattle.bits.proofs.OfBytes.{length-bitsOf}
 use Rattle.bits.proofs.Runs.{length-run}
-use Rattle.shapes.proofs.Words.{isWord-word, bits-word}
-use Rattle.shapes.proofs.Widths.{word-widths}
 use Rattle.checked.specs.Passed.{Streamed}
 use Rattle.checked.proofs.Passes.{stream-passes}
 use Rattle.checked.proofs.Read.{stopped, early, short, done}
@@ -77,8 +77,8 @@ width-is : (c : tie.After-word-width) → c .word-width .result ≡ bits (type (
 width-is c =
     let s = start (c .before .before .before) in
     c .word-width .ensures
-    ∙ word-widths (s .args .n) (c .before .before .before .if1 .left)
-    ∙ sym (ap bits (isWord-word (s .args .n) (type s) (is-right (c .before))) ∙ bits-word (s .args .n))
+    ∙ word-widths-bits (s .args .n) (c .before .before .before .if1 .left)
+    ∙ sym (ap bits (isWord-word (s .args .n) (type s) (is-right (c .before))))
 
 narrow : (c : tie.After-word-width) → c .word-width .result ≤ 524288
 narrow c = let e = width-is c in let p = inside (start (c .before .before .before)) .named .narrow in omega arith

@@ -11,8 +11,8 @@ use borrow.Author.Needs.{needs}
 use Rattle.meaning.specs.Types.{bits}
 use Rattle.meaning.specs.Bits.{bitsOf}
 use Rattle.meaning.specs.Words.{segmentBits, buffer, bufferBits}
+use Rattle.meaning.proofs.WordWidths.{word-widths}
 use Rattle.bits.proofs.OfBytes.{tail}
-use Rattle.shapes.proofs.Widths.{word-widths}
 use Rattle.words_laws.specs.Segments.{heldBy}
 use Rattle.words_laws.proofs.Parts.{segments, held-most, buffer-small, parts-begin, part-room, part-next, part-paste, parts-end}
 use Rattle.words_segments.proofs.write_buffer.Statement.{statement}

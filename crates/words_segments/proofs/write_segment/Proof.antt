@@ -11,8 +11,8 @@ use lib.Seq.{paste}
 use borrow.Author.Needs.{needs}
 use borrow.Author.Tests.{eq-eqb, ne-eqb}
 use Rattle.meaning.specs.Bits.{odd, bitsOf, zeros}
+use Rattle.meaning.proofs.WordWidths.{word-widths}
 use Rattle.bits.proofs.OfBytes.{length-bitsOf}
-use Rattle.shapes.proofs.Widths.{word-widths}
 use Rattle.words_laws.proofs.Parts.{held-within, present-bits, absent-bits, paste-tagged}
 use Rattle.words_segments.proofs.write_segment.Statement.{statement}
 use Rattle.words_segments.proofs.write_segment.Tie as tie

@@ -9,10 +9,11 @@ use lib.Seq.{paste}
 use borrow.Author.Needs.{needs}
 use Rattle.meaning.specs.Bits.{bitsOf, toBits}
 use Rattle.meaning.specs.Words.{bufferBits, ctx8Bits}
+use Rattle.meaning.proofs.Buffers.{buffer-five}
 use Rattle.bits.proofs.OfBytes.{are-bytes}
 use Rattle.bits.proofs.Packed.{finished}
 use Rattle.words_states.specs.State.{stateOf}
-use Rattle.words_laws.proofs.Hashed.{buffer-five, length-state, state-whole}
+use Rattle.words_laws.proofs.Hashed.{length-state, state-whole}
 use Rattle.words_states.proofs.write_state.Statement.{statement}
 use Rattle.words_states.proofs.write_state.Tie as tie
 

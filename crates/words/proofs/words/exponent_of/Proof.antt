@@ -4,7 +4,7 @@ use mathlib.Core.Path.{_≡_, sym, ap, _∙_}
 use native.Mathlib.Omega.{arith}
 use lib.Count.{trailingZeros, trailing-le}
 use Rattle.meaning.specs.Words.{exponent}
-use Rattle.shapes.proofs.Widths.{word-widths}
+use Rattle.meaning.proofs.WordWidths.{word-widths}
 use Rattle.words_laws.proofs.Ranges.{exponent-pow, exponent-is, exponent-else, exponent-zeros}
 use Rattle.words.proofs.words.exponent_of.Statement.{statement}
 use Rattle.words.proofs.words.exponent_of.Tie as tie
