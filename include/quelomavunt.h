@@ -44,9 +44,9 @@
  * A record that is made, read or cut starts at bit 0 of `out`, takes width / 8 bytes rounded up, and has zero bits
  * after its width; later bytes of `out` stay.
  *
- * Stack. A thread with QV_STACK_BYTES of stack may make any call. qv_from_compact_bits, qv_to_compact_bits,
+ * Stack. With QV_STACK_BYTES of stack free any call may be made. qv_from_compact_bits, qv_to_compact_bits,
  * qv_compact_len and qv_prune go down a type by calling themselves, at most once for each node on the way, and need it
- * for the deepest tables; every other call takes less than 8 KiB.
+ * for the deepest tables; every other call takes less than 8 KiB. This is measured and tested, not proved.
  */
 #ifndef QUELOMAVUNT_H
 #define QUELOMAVUNT_H
@@ -172,6 +172,8 @@ uint64_t qv_is_ctx8(
     uint64_t node, uint64_t *answer);
 
 /* ---- Views of a record ---- */
+
+/* A view is refused with 5 also where offset plus width is above 2^64 - 1: its offset might be no 64-bit number. */
 
 /* Accepted: `view` holds the offset and the node of a left payload: 2 entries. Refuses: 1 to 5, 7, 9. */
 uint64_t qv_as_left(

@@ -184,15 +184,22 @@ fn d11_small_words_lie_at_the_end_of_a_byte_and_padded_readings_keep_a_byte_more
     let read = |ty: &Final| Value::from_padded_bits(&mut BitIter::new([0xA5].into_iter()), ty).expect("enough bits");
     told(&read(&Final::u8()), "raw_value: [165, 0], raw_bit_offset: 0");
     told(&read(&Final::unit()), "raw_value: [0], raw_bit_offset: 0");
+    told(&Value::right(Final::unit(), Value::unit()), "raw_value: [1], raw_bit_offset: 7");
     // By the rules a result starts at bit 0, takes its width rounded up to bytes, and later bytes stay.
     let mut maker = TableMaker::new();
-    let (nibble, byte) = (maker.word(2).into(), maker.word(3).into());
+    let [bit, pair, nibble, byte] = [0, 1, 2, 3].map(|n| u64::from(maker.word(n)));
     let table = maker.finish();
-    let q = Request { n: 10, node: nibble, out: &[0xFF; 2], ..Request::new(Call::U4, table.lend()) };
-    assert_eq!(rules(&q).out, [0xA0, 0xFF]);
+    for (call, n, node, first) in
+        [(Call::U1, 1, bit, 0x80), (Call::U2, 2, pair, 0x80), (Call::U4, 10, nibble, 0xA0), (Call::Right, 0, bit, 0x80)]
+    {
+        let q = Request { n, node, out: &[0xFF; 2], ..Request::new(call, table.lend()) };
+        assert_eq!(rules(&q).out, [first, 0xFF], "{call:?}");
+    }
     let stream = Stream { bytes: &[0xA5], length: 8, position: 0 };
-    let q = Request { stream, node: byte, out: &[0xFF; 2], ..Request::new(Call::FromPaddedBits, table.lend()) };
-    assert_eq!(rules(&q).out, [0xA5, 0xFF]);
+    for (node, out) in [(byte, [0xA5, 0xFF]), (0, [0xFF, 0xFF])] {
+        let q = Request { stream, node, out: &[0xFF; 2], ..Request::new(Call::FromPaddedBits, table.lend()) };
+        assert_eq!(rules(&q).out, out);
+    }
 }
 
 #[test]

@@ -61,7 +61,7 @@ pub use tables::Table;
 pub use types::{Facts, Shape};
 pub use word_types::{buffer_width, word_width};
 
-/// The bytes of stack that are enough for any call: a thread with so much may make them all.
+/// The bytes of stack that are enough for any call, as measured and tested: a thread with so much may make them all.
 ///
 /// The compact codec, [`Table::compact_len`] and [`Table::prune`] go down a type by calling themselves, at most once for
 /// each node on the way, and need it for the deepest tables; every other call takes less than 8 KiB. A thread of the
