@@ -28,7 +28,7 @@ use Rattle.bits.proofs.Runs.{take-run, drop-run}
 use Rattle.checked.specs.Sides.{sideNode, sideType, padding, says}
 use Rattle.value_views.specs.Views.{payloadSpot, payloadRungs, partsSpots, partsRungs}
 use Rattle.checked.proofs.Nodes.{before-payload}
-use Rattle.value.proofs.SideTypes.{sum-tree, prod-tree, prod-named, side-type-is, side-named}
+use Rattle.checked.proofs.SideTypes.{sum-tree, prod-tree, prod-named, side-type-is, side-named}
 
 -- The record at a place in the bytes of another.
 abbrev pub shown : Record → Spot → Record
