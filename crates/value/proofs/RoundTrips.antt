@@ -5,7 +5,7 @@
 --   left-again right-again some-again       as_left of left, as_right of right and of some
 --   AgainBoth product-again         as_product of product
 -- Assumes nothing.
-use Prim.Native.Nat.{ℕ, _+_, _-_, _*_, _≤_}
+use Prim.Native.Nat.{ℕ, _+_, _-_, _≤_}
 use mathlib.Core.Path.{_≡_, refl, sym, ap, ap₂, _∙_, subst}
 use mathlib.Core.Bool.{Bool, true, false, _&&_}
 use mathlib.Core.List.{List, [], _∷_, _++_}
@@ -14,7 +14,7 @@ use lib.ListN.{length, take, drop, length-append}
 use lib.Seq.{take-at, drop-at}
 use Rattle.meaning.specs.Types.{Ty, same, bits, isSum, isProd, leftSide, rightSide}
 use Rattle.meaning.specs.Tables.{Table, left, right}
-use Rattle.meaning.specs.Bits.{bitsOf, zeros, room, written}
+use Rattle.meaning.specs.Bits.{room, written}
 use Rattle.meaning.specs.Records.{tag}
 use Rattle.meaning.specs.Ladder.{Answer, accepted, ladder, Record, record-of, typeAt, typeOf, recordBits, shaped}
 use Rattle.meaning.specs.RecordCalls.{Spot, Spots, handed, asLeftCall, asRightCall, asProductCall, productBits}
@@ -43,9 +43,9 @@ use Rattle.value.proofs.SubViews.{shown, payload-shows, parts-show}
 
 -- ---- A record that was written at bit 0
 
-module _ (t : Table) (c : ℕ) (v : List Bool) (out : List ℕ) (h : length v ≡ bits (typeAt t c)) where
-  pub written-held : Named t c → room (length v) ≤ length out → Held t (record-of (written v out) 0 c)
-  written-held n r = record { named = n; ends = omega (arith, length-written v out r) }
+pub written-held : (t : Table) (c : ℕ) (v : List Bool) (out : List ℕ) → length v ≡ bits (typeAt t c) → Named t c → room (length v) ≤ length out
+    → Held t (record-of (written v out) 0 c)
+written-held t c v out h n r = record { named = n; ends = omega (arith, length-written v out r) }
 
 -- ---- Sums, over the tag
 
