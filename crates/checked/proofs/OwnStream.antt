@@ -15,14 +15,13 @@ use mathlib.Core.List.{List, [], _∷_, _++_, append-nil}
 use native.Mathlib.Omega.{arith}
 use lib.Dec.{ltb}
 use lib.ListN.{length, take}
-use borrow.Author.Tests.{le-ltb}
 use Rattle.meaning.specs.Tables.{Table}
 use Rattle.meaning.specs.Bits.{written}
 use Rattle.meaning.specs.Codecs.{Decoded, early, decoded, isEarly, recordOf, consumed}
 use Rattle.meaning.specs.Ladder.{refused, accepted, Rung, rung, ladder, Stream, restOf, named, roomFor}
 use Rattle.meaning.specs.CodecCalls.{reads, readOut, readRungs}
-use Rattle.meaning.proofs.Tests.{or-none}
 use Rattle.meaning.proofs.Ladders.{ladder-parts, ladder-pass, ladder-stop, kept-refused}
+use Rattle.checked.proofs.Passes.{stream-fits}
 use Rattle.checked.proofs.Read.{done, accepts}
 
 -- A stream's length runs past its bytes, or its position past that length.
@@ -34,17 +33,11 @@ pub record AgreeStream (s s′ : Stream) : Type 0 where
   pub outsides : outside s ≡ outside s′
   pub rests : restOf s ≡ restOf s′
 
--- A stream within its bytes, and a position within the stream.
-fits : (s : Stream) → s .until ≤ 8 * length (s .bytes) → s .position ≤ s .until → outside s ≡ false
-fits s h k =
-    or-none (ltb (8 * length (s .bytes)) (s .until)) (ltb (s .until) (s .position)) (le-ltb (8 * length (s .bytes)) (s .until) h)
-    (le-ltb (s .until) (s .position) k)
-
 pub streams-agree : (s s′ : Stream) → s .until ≤ 8 * length (s .bytes) → s .position ≤ s .until → s′ .until ≤ 8 * length (s′ .bytes)
     → s′ .position ≤ s′ .until
     → restOf s ≡ restOf s′
     → AgreeStream s s′
-streams-agree s s′ h k h′ k′ e = record { outsides = fits s h k ∙ sym (fits s′ h′ k′); rests = e }
+streams-agree s s′ h k h′ k′ e = record { outsides = stream-fits s h k ∙ sym (stream-fits s′ h′ k′); rests = e }
 
 -- A reading of a stream that the first rungs let pass.
 module _ (read : List Bool → Decoded) (gs gs′ ms : List Rung) (s s′ : Stream) (out : List ℕ)
