@@ -18,7 +18,7 @@ use lib.ListN.{length, take}
 use Rattle.meaning.specs.Tables.{Table}
 use Rattle.meaning.specs.Bits.{written}
 use Rattle.meaning.specs.Codecs.{Decoded, early, decoded, isEarly, recordOf, consumed}
-use Rattle.meaning.specs.Ladder.{refused, accepted, Rung, rung, ladder, Stream, restOf, named, roomFor}
+use Rattle.meaning.specs.Ladder.{Answer, refused, accepted, Rung, rung, ladder, Stream, restOf, named, roomFor}
 use Rattle.meaning.specs.CodecCalls.{reads, readOut, readRungs}
 use Rattle.meaning.proofs.Ladders.{ladder-parts, ladder-pass, ladder-stop, kept-refused}
 use Rattle.checked.proofs.Passes.{stream-fits}
@@ -39,7 +39,7 @@ pub streams-agree : (s s′ : Stream) → s .until ≤ 8 * length (s .bytes) →
     → AgreeStream s s′
 streams-agree s s′ h k h′ k′ e = record { outsides = stream-fits s h k ∙ sym (stream-fits s′ h′ k′); rests = e }
 
--- A reading of a stream that the first rungs let pass.
+-- The first rungs let the second stream pass.
 module _ (read : List Bool → Decoded) (gs gs′ ms : List Rung) (s s′ : Stream) (out : List ℕ)
     (clear : ladder gs′ (tt {0}) ≡ accepted (tt {0})) where
   abbrev d : Decoded
@@ -76,7 +76,7 @@ module _ (read : List Bool → Decoded) (gs gs′ ms : List Rung) (s s′ : Stre
 pub stream-own : (t : Table) (s s′ : Stream) (node : ℕ) → AgreeStream s s′ → readRungs t s node ≡ readRungs t s′ node
 stream-own t s s′ node g = ap (λ (b : Bool). named t (node ∷ []) ++ (rung b 5 0 ∷ [])) (g .outsides)
 
--- The rungs of the two readings, 8 and 9 apart, are the same.
+-- The rungs before 8 are the same of both; so are 8 and 9, since the streams that are read hold the same bits.
 pub refused-own : (read : List Bool → Decoded) (gs gs′ : List Rung) (s s′ : Stream) (out : List ℕ) → gs ≡ gs′ → AgreeStream s s′
     → (n p : ℕ) → reads gs s (read (restOf s)) out ≡ refused n p
     → (reads gs′ s′ (read (restOf s′)) out ≡ refused n p) × (readOut gs′ s′ (read (restOf s′)) out ≡ out)
@@ -86,8 +86,9 @@ refused-own read gs gs′ s s′ out e g n p h =
     let next = s .position + consumed d in
     let next′ = s′ .position + consumed d′ in
     let all : List Rung = gs ++ (rung (isEarly d) 8 0 ∷ roomFor (recordOf d) out) in
+    let by : List Rung → List Bool → Answer ℕ = λ rs v. ladder (rs ++ (rung (isEarly (read v)) 8 0 ∷ roomFor (recordOf (read v)) out)) next′ in
     let c : reads gs′ s′ d′ out ≡ refused n p =
-    ap₂ (λ (rs : List Rung) (v : List Bool). ladder (rs ++ (rung (isEarly (read v)) 8 0 ∷ roomFor (recordOf (read v)) out)) next′) (sym e) (sym (g .rests))
+    ap₂ by (sym e) (sym (g .rests))
     ∙ ap (λ (rs : List Rung). ladder rs next′) (sym (append-nil all))
     ∙ ladder-stop all [] next next′ n p h in
     (c, kept-refused (reads gs′ s′ d′ out) n p out (written (recordOf d′) out) c)
