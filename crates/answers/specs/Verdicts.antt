@@ -1,4 +1,9 @@
 -- Which of document 01's answers each value of an enum stands for: the number and place of a refusal, or what was accepted.
+--
+--   refusalOf                   a refusal's number and place
+--   nodeFacts spot order        the facts of a node, a place that a view shows, and an order, as the definitions have them
+--   doneOf countOf flagOf sidesOf factsOf spotOf spotsOf orderOf        the answers: done, a number, yes or no, two sides, the facts of a node,
+--                               one place, two places, an order
 use Prim.Native.Nat.{ℕ, Ordering, Ordering·lt, Ordering·eq, Ordering·gt}
 use mathlib.Core.Bool.{Bool}
 use Rattle.meaning.specs.Tables as tables

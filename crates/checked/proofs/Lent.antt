@@ -1,13 +1,15 @@
 -- Records and streams in the bytes that a call lends its inner functions, `&bytes[offset / 8..]`: the laws of lent bytes, for what was checked.
 --
 --   part-run                a run within a run
---   starts                  the part begins within the bytes
+--   lent starts             the part of a record's bytes that is lent; it begins within the bytes
 --   lent-run                the record lies within the part
 --   lent-bits lent-tag      its bits, and its first bit, read from the part
 --   own-length              it has as many bits as its type is wide
---   stream-starts stream-inside     the same of a stream from its position on
---   stream-rest rest-length         what is left of it, read from the part, and how much that is
---   padded-short padded-lent        padded reading of it, by how many bits are left
+--   lentStream              the part of a stream's bytes that is lent, from the byte of its position on
+--   stream-starts stream-inside     the part begins within the bytes, and what is left of the stream lies within the part
+--   stream-taken stream-rest rest-length    what is left, read from the part: as many bits from the position on, or the bits up to the length
+--                                   from the position on; and how much that is
+--   padded-run padded-short padded-lent     padded reading of it: the run that it reads, and what it reads, by how many bits are left
 -- Assumes nothing.
 use mathlib.Core.Path.{_≡_, refl, sym, ap, ap₂, _∙_}
 use mathlib.Core.Bool.{Bool, false}

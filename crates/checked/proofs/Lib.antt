@@ -8,3 +8,4 @@ pub mod Passed
 pub mod Passes
 pub mod Read
 pub mod Shaped
+pub mod SideTypes

@@ -3,19 +3,20 @@
 --   stopped short done          a rung before the room refuses; the room does; nothing does
 --   first-stopped handed-on     the first rungs of a call refuse; what they let pass is for the others to judge
 --   Accepted accepts            what is known of a call that was accepted
+--   written-bits                bits that were written are those of a record at bit 0
 --   made-length made-record     its output is as long as before, and the record at bit 0 is what was made
 -- Assumes nothing.
-use Prim.Native.Nat.{ℕ, _≤_, _<_}
+use Prim.Native.Nat.{ℕ, _-_, _*_, _≤_, _<_}
 use mathlib.Core.Path.{_≡_, sym, ap, _∙_}
 use mathlib.Core.Bool.{Bool}
 use mathlib.Core.List.{List, [], _++_, append-assoc}
 use lib.Dec.{ltb}
-use lib.ListN.{length, take}
+use lib.ListN.{length, take, drop}
 use lib.Seq.{take-at}
 use borrow.Author.Tests.{lt-ltb, le-ltb, ltb-false}
 use Rattle.meaning.specs.Types.{bits}
 use Rattle.meaning.specs.Tables.{Table}
-use Rattle.meaning.specs.Bits.{bitsOf, room, written}
+use Rattle.meaning.specs.Bits.{bitsOf, zeros, room, written}
 use Rattle.meaning.specs.Ladder.{Answer, refused, accepted, Rung, ladder, kept, record-of, typeAt, recordBits, roomFor, makes, made}
 use Rattle.meaning.proofs.Ladders.{ladder-parts, ladder-pass, ladder-stop, ladder-holds, ladder-fails, ladder-clear, kept-refused, kept-accepted}
 use Rattle.bits.proofs.Packed.{bitsOf-written, length-written}
@@ -79,11 +80,15 @@ pub made-length : (rs : List Rung) (v : List Bool) (out : List ℕ) (w : ℕ) �
 made-length rs v out w h =
     let a = accepts rs v out w h in ap length (a .output) ∙ length-written v out (a .roomy)
 
+pub written-bits : (t : Table) (node : ℕ) (v : List Bool) (out : List ℕ) → length v ≡ bits (typeAt t node)
+    → recordBits t (record-of (written v out) 0 node) ≡ v
+unfolding recordBits
+written-bits t node v out e =
+    ap (take (bits (typeAt t node))) (bitsOf-written v out)
+    ∙ take-at v (zeros (8 * room (length v) - length v) ++ drop (8 * room (length v)) (bitsOf out)) (bits (typeAt t node)) e
+
 pub made-record : (t : Table) (result : ℕ) (rs : List Rung) (v : List Bool) (out : List ℕ) (w : ℕ) → makes rs v out ≡ accepted w
     → bits (typeAt t result) ≡ length v
     → recordBits t (record-of (made rs v out) 0 result) ≡ v
-unfolding recordBits
 made-record t result rs v out w h e =
-    ap (λ (s : List ℕ). take (bits (typeAt t result)) (bitsOf s)) (accepts rs v out w h .output)
-    ∙ ap (take (bits (typeAt t result))) (bitsOf-written v out)
-    ∙ take-at v _ (bits (typeAt t result)) (sym e)
+    ap (λ (new : List ℕ). recordBits t (record-of new 0 result)) (accepts rs v out w h .output) ∙ written-bits t result v out (sym e)

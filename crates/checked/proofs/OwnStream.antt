@@ -1,22 +1,45 @@
--- Two readings of one type, of streams that the first rungs let pass, into one output. The rungs of the streams are `gs` and `gs′`, those
--- that follow them `ms`, and `read` decodes.
+-- Two readings of one type into one output; `read` decodes.
 --
---   accepted-own                an accepted reading depends on the bits that it consumed alone: answer, counted from the position, and output
---   refused-own                 a refused one on those from the position to the stream's length, whatever number it is refused with
+--   outside                     a stream's length runs past its bytes, or its position past that length: 5
+--   AgreeStream                 two streams, both outside or neither, with the same bits from the position to the length
+--   streams-agree               two streams that fit agree where these bits are the same
+--   accepted-own                an accepted reading depends on the bits that it consumed alone: answer, counted from the position, and output.
+--                               The rungs of the streams are `gs` and `gs′`, those of the second pass, and those that follow them are `ms`
+--   stream-own                  1 to 5 of a reader are the same of streams that agree
+--   refused-own                 a refusal of the one, 1 to 9, is the refusal of the other, and its output stays as it was
 -- Assumes nothing.
-use Prim.Native.Nat.{ℕ, _+_, _-_}
-use mathlib.Core.Path.{_≡_, refl, sym, ap, _∙_}
-use mathlib.Core.Bool.{Bool, false, true≢false}
-use mathlib.Core.List.{List, [], _∷_, _++_, append-assoc, append-nil}
+use Prim.Native.Nat.{ℕ, _+_, _*_, _-_, _≤_}
+use mathlib.Core.Path.{_≡_, refl, sym, ap, ap₂, _∙_}
+use mathlib.Core.Bool.{Bool, false, _||_, true≢false}
+use mathlib.Core.List.{List, [], _∷_, _++_, append-nil}
 use native.Mathlib.Omega.{arith}
+use lib.Dec.{ltb}
 use lib.ListN.{length, take}
+use Rattle.meaning.specs.Tables.{Table}
 use Rattle.meaning.specs.Bits.{written}
 use Rattle.meaning.specs.Codecs.{Decoded, early, decoded, isEarly, recordOf, consumed}
-use Rattle.meaning.specs.Ladder.{refused, accepted, Rung, rung, ladder, Stream, restOf, roomFor}
-use Rattle.meaning.specs.CodecCalls.{reads, readOut}
+use Rattle.meaning.specs.Ladder.{Answer, refused, accepted, Rung, rung, ladder, Stream, restOf, named, roomFor}
+use Rattle.meaning.specs.CodecCalls.{reads, readOut, readRungs}
 use Rattle.meaning.proofs.Ladders.{ladder-parts, ladder-pass, ladder-stop, kept-refused}
+use Rattle.checked.proofs.Passes.{stream-fits}
 use Rattle.checked.proofs.Read.{done, accepts}
 
+-- A stream's length runs past its bytes, or its position past that length.
+abbrev pub outside : Stream → Bool
+outside s = ltb (8 * length (s .bytes)) (s .until) || ltb (s .until) (s .position)
+
+-- Two streams, wherever they lie.
+pub record AgreeStream (s s′ : Stream) : Type 0 where
+  pub outsides : outside s ≡ outside s′
+  pub rests : restOf s ≡ restOf s′
+
+pub streams-agree : (s s′ : Stream) → s .until ≤ 8 * length (s .bytes) → s .position ≤ s .until → s′ .until ≤ 8 * length (s′ .bytes)
+    → s′ .position ≤ s′ .until
+    → restOf s ≡ restOf s′
+    → AgreeStream s s′
+streams-agree s s′ h k h′ k′ e = record { outsides = stream-fits s h k ∙ sym (stream-fits s′ h′ k′); rests = e }
+
+-- The first rungs let the second stream pass.
 module _ (read : List Bool → Decoded) (gs gs′ ms : List Rung) (s s′ : Stream) (out : List ℕ)
     (clear : ladder gs′ (tt {0}) ≡ accepted (tt {0})) where
   abbrev d : Decoded
@@ -49,27 +72,23 @@ module _ (read : List Bool → Decoded) (gs gs′ ms : List Rung) (s s′ : Stre
       by-reading (decoded v k) g w n =
           law (restOf s) (restOf s′) v k g (ap (λ (i : ℕ). take i (restOf s′)) n ∙ e ∙ ap (λ (i : ℕ). take i (restOf s)) (sym n))
 
-  -- The rungs after those of the stream.
-  abbrev others : Decoded → List Rung
-  others x = ms ++ (rung (isEarly x) 8 0 ∷ roomFor (recordOf x) out)
+-- 1 to 5 of a reader of two streams that agree.
+pub stream-own : (t : Table) (s s′ : Stream) (node : ℕ) → AgreeStream s s′ → readRungs t s node ≡ readRungs t s′ node
+stream-own t s s′ node g = ap (λ (b : Bool). named t (node ∷ []) ++ (rung b 5 0 ∷ [])) (g .outsides)
 
-  -- They decide where those let pass.
-  others-decide : (hs : List Rung) (u : Stream) (x : Decoded) → ladder hs (tt {0}) ≡ accepted (tt {0})
-      → reads (hs ++ ms) u x out ≡ ladder (others x) (u .position + consumed x)
-  others-decide hs u x h =
-      ap (λ (y : List Rung). ladder y (u .position + consumed x)) (append-assoc hs ms (rung (isEarly x) 8 0 ∷ roomFor (recordOf x) out))
-      ∙ ladder-pass hs (others x) (tt {0}) (tt {0}) (u .position + consumed x) h
-
-  pub refused-own : ladder gs (tt {0}) ≡ accepted (tt {0}) → (n p : ℕ) → reads (gs ++ ms) s (read (restOf s)) out ≡ refused n p
-      → restOf s′ ≡ restOf s
-      → (reads (gs′ ++ ms) s′ (read (restOf s′)) out ≡ refused n p) × (readOut (gs′ ++ ms) s′ (read (restOf s′)) out ≡ out)
-  refused-own passes n p h e =
-      let at = s′ .position + consumed d′ in
-      let stop : ladder (others d ++ []) at ≡ refused n p =
-      ladder-stop (others d) [] (s .position + consumed d) at n p (sym (others-decide gs s d passes) ∙ h) in
-      let c : reads (gs′ ++ ms) s′ d′ out ≡ refused n p =
-      others-decide gs′ s′ d′ clear
-      ∙ ap (λ (x : List Bool). ladder (others (read x)) at) e
-      ∙ ap (λ (x : List Rung). ladder x at) (sym (append-nil (others d)))
-      ∙ stop in
-      (c, kept-refused (reads (gs′ ++ ms) s′ d′ out) n p out (written (recordOf d′) out) c)
+-- The rungs before 8 are the same of both; so are 8 and 9, since the streams that are read hold the same bits.
+pub refused-own : (read : List Bool → Decoded) (gs gs′ : List Rung) (s s′ : Stream) (out : List ℕ) → gs ≡ gs′ → AgreeStream s s′
+    → (n p : ℕ) → reads gs s (read (restOf s)) out ≡ refused n p
+    → (reads gs′ s′ (read (restOf s′)) out ≡ refused n p) × (readOut gs′ s′ (read (restOf s′)) out ≡ out)
+refused-own read gs gs′ s s′ out e g n p h =
+    let d = read (restOf s) in
+    let d′ = read (restOf s′) in
+    let next = s .position + consumed d in
+    let next′ = s′ .position + consumed d′ in
+    let all : List Rung = gs ++ (rung (isEarly d) 8 0 ∷ roomFor (recordOf d) out) in
+    let by : List Rung → List Bool → Answer ℕ = λ rs v. ladder (rs ++ (rung (isEarly (read v)) 8 0 ∷ roomFor (recordOf (read v)) out)) next′ in
+    let c : reads gs′ s′ d′ out ≡ refused n p =
+    ap₂ by (sym e) (sym (g .rests))
+    ∙ ap (λ (rs : List Rung). ladder rs next′) (sym (append-nil all))
+    ∙ ladder-stop all [] next next′ n p h in
+    (c, kept-refused (reads gs′ s′ d′ out) n p out (written (recordOf d′) out) c)

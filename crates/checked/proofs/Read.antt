@@ -1,7 +1,8 @@
 -- How a call that reads a stream answers, and what it leaves in its output. Its first rungs are `rs`, and it decodes `d`.
 --
 --   stopped early short done    the first rungs refuse; the stream ends early; the room is short; nothing refuses
---   AcceptedRead accepts            what is known of a reading that was accepted
+--   after                       what the first rungs let pass is for 8 and 9 to judge
+--   AcceptedRead accepts        what is known of a reading that was accepted
 -- Assumes nothing.
 use Prim.Native.Nat.{ℕ, _+_, _≤_, _<_}
 use mathlib.Core.Path.{_≡_, sym, ap, _∙_}

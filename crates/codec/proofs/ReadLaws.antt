@@ -1,49 +1,42 @@
--- The laws of the two readers as a caller meets them, over any sound table, stream and node within the limits (`Streamed`: 1 to 5 do not
--- apply). They speak of the equations that the calls are proved to meet, `fromCompactCall` and `fromPaddedCall` for the answer, and those with
--- Out for the output.
+-- The laws of the two readers as a caller meets them. They speak of the equations that the calls are proved to meet, `fromCompactCall` and
+-- `fromPaddedCall` for the answer, and those with Out for the output. `Streamed` is a sound table, a node within the limits and a stream that
+-- fits: 1 to 5 do not apply.
 --
 --   at-zero                         the record that a call has written, at bit 0 of its output
 --   CompactGot compact-got          what an accepted compact reading has read and consumed
 --   PaddedGot padded-got            the same of padded reading
 --   compact-reads padded-reads      a record that begins the stream is read, where there is room
 --   compact-accepted-own padded-accepted-own    an accepted reading depends on the bits that it consumed alone
---   compact-refused-own padded-refused-own      a refusal, with 8 or 9, on those from the position to the length
+--   compact-refused-own padded-refused-own      a refusal, 1 to 9, on those from the position to the length (`AgreeStream` of
+--                                   `checked/proofs/OwnStream`)
 --   unpadded-read                   no padding: both readers answer and write the same
 -- Assumes nothing.
 use mathlib.Core.Path.{_≡_, refl, sym, ap, _∙_}
 use mathlib.Core.Bool.{Bool, false}
-use mathlib.Core.List.{List, [], _++_}
-use Prim.Native.Nat.{ℕ, _+_, _-_, _*_, _≤_, _<_}
+use mathlib.Core.List.{List, []}
+use Prim.Native.Nat.{ℕ, _+_, _-_, _≤_, _<_}
 use native.Mathlib.Omega.{arith}
-use lib.ListN.{length, take, drop}
-use lib.Seq.{take-at}
+use lib.ListN.{length, take}
 use Rattle.meaning.specs.Types.{bits, width, padded, top}
 use Rattle.meaning.specs.Tables.{Table}
-use Rattle.meaning.specs.Bits.{bitsOf, zeros, room, written}
+use Rattle.meaning.specs.Bits.{room, written}
 use Rattle.meaning.specs.Records.{compact, plain}
 use Rattle.meaning.specs.Codecs.{Decoded, decoded, decodeCompact, decodePadded, isEarly, recordOf, consumed}
 use Rattle.meaning.specs.Ladder.{refused, accepted, Record, Stream, record-of, typeAt, recordBits, restOf}
 use Rattle.meaning.specs.CodecCalls.{reads, readOut, readRungs, compactIn, paddedIn, fromCompactCall, fromCompactOut, fromPaddedCall, fromPaddedOut}
 use Rattle.meaning.proofs.Types.{width-bits}
-use Rattle.bits.proofs.Packed.{bitsOf-written, length-written}
+use Rattle.bits.proofs.Packed.{length-written}
 use Rattle.checked.specs.Passed.{Held, Streamed}
 use Rattle.checked.proofs.Passed.{stream-passed}
 use Rattle.checked.proofs.Passes.{stream-passes}
+use Rattle.checked.proofs.Made.{written-bits}
 use Rattle.checked.proofs.Read.{done, AcceptedRead, accepts}
-use Rattle.checked.proofs.OwnStream.{accepted-own, refused-own}
+use Rattle.checked.proofs.OwnStream.{AgreeStream, accepted-own, stream-own, refused-own}
 use Rattle.laws.proofs.RecordPlain.{plain-length}
 use Rattle.laws.proofs.RecordPrefixes.{Begins, compact-begins-read, padded-begins-read}
 use Rattle.laws.proofs.CodecRoundTrips.{compact-read-write, padded-read-write}
 use Rattle.laws.proofs.CodecExact.{decoded-test, compact-own-bits, padded-own-bits}
 use Rattle.laws.proofs.CodecReaders.{unpadded-same-reading}
-
--- Bits that were written are those of a record at bit 0.
-pub written-bits : (t : Table) (node : ℕ) (v : List Bool) (out : List ℕ) → length v ≡ bits (typeAt t node)
-    → recordBits t (record-of (written v out) 0 node) ≡ v
-unfolding recordBits
-written-bits t node v out e =
-    ap (take (bits (typeAt t node))) (bitsOf-written v out)
-    ∙ take-at v (zeros (8 * room (length v) - length v) ++ drop (8 * room (length v)) (bitsOf out)) (bits (typeAt t node)) e
 
 -- The record that a call has written for a node.
 abbrev pub at-zero : List ℕ → ℕ → Record
@@ -159,7 +152,7 @@ module _ (t : Table) (s : Stream) (node : ℕ) (out : List ℕ) where
       let e = unpadded-same-reading (typeAt t node) (restOf s) p low in
       (ap (λ (d : Decoded). reads (readRungs t s node) s d out) e, ap (λ (d : Decoded). readOut (readRungs t s node) s d out) e)
 
-  -- Another stream.
+  -- Another stream, that 1 to 5 let pass.
   module _ (s′ : Stream) (w : Streamed t s′ node) where
     pub compact-accepted-own : (next : ℕ) → fromCompactCall t s node out ≡ accepted next
         → take (next - s .position) (restOf s′) ≡ take (next - s .position) (restOf s)
@@ -177,14 +170,14 @@ module _ (t : Table) (s : Stream) (node : ℕ) (out : List ℕ) where
         accepted-own (decodePadded (typeAt t node)) (readRungs t s node) (readRungs t s′ node) [] s s′ out (stream-passes t s′ node w)
         (padded-own-bits (typeAt t node)) next h e
 
-    pub compact-refused-own : Streamed t s node → (n p : ℕ) → fromCompactCall t s node out ≡ refused n p → restOf s′ ≡ restOf s
+  -- Another stream, that agrees with this one.
+  module _ (s′ : Stream) (g : AgreeStream s s′) where
+    pub compact-refused-own : (n p : ℕ) → fromCompactCall t s node out ≡ refused n p
         → (fromCompactCall t s′ node out ≡ refused n p) × (fromCompactOut t s′ node out ≡ out)
-    compact-refused-own v n p h e =
-        refused-own (decodeCompact (typeAt t node)) (readRungs t s node) (readRungs t s′ node) [] s s′ out (stream-passes t s′ node w)
-        (stream-passes t s node v) n p h e
+    compact-refused-own =
+        refused-own (decodeCompact (typeAt t node)) (readRungs t s node) (readRungs t s′ node) s s′ out (stream-own t s s′ node g) g
 
-    pub padded-refused-own : Streamed t s node → (n p : ℕ) → fromPaddedCall t s node out ≡ refused n p → restOf s′ ≡ restOf s
+    pub padded-refused-own : (n p : ℕ) → fromPaddedCall t s node out ≡ refused n p
         → (fromPaddedCall t s′ node out ≡ refused n p) × (fromPaddedOut t s′ node out ≡ out)
-    padded-refused-own v n p h e =
-        refused-own (decodePadded (typeAt t node)) (readRungs t s node) (readRungs t s′ node) [] s s′ out (stream-passes t s′ node w)
-        (stream-passes t s node v) n p h e
+    padded-refused-own =
+        refused-own (decodePadded (typeAt t node)) (readRungs t s node) (readRungs t s′ node) s s′ out (stream-own t s s′ node g) g

@@ -2,6 +2,7 @@
 --
 --   inRange                     the lengths that make a hash state
 --   handedState                 midstate, count and buffered bytes, all of which are used
+--   handedRungs                 1 to 7 of `ctx8`: other lengths are 6
 --   ctx8Handed ctx8HandedOut    `ctx8` of them: the answer and the output
 --   Stands                      a struct that `ctx8` answers for as for the slices
 use Prim.Native.Nat.{ℕ}

@@ -2,6 +2,7 @@
 --
 --   code                        the result: 0, or number + 256 · place
 --   place Near                  the place of an answer; one that leaves room for the number
+--   rank                        an order as a number: 0 less, 1 equal, 2 greater
 --   storedAs stored storedFlag storedOrder      a lent number afterwards
 --   roomy                       an answer whose values need lent entries
 --   storedAll                   lent entries afterwards

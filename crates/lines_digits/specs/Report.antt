@@ -1,14 +1,16 @@
 -- The text of a report: document 01, "Samples". Every line ends in one newline.
 --
 --   ascii                       the bytes of a text
+--   digitOf digits              the digit of a number below ten; a number of at most k digits
 --   decimal                     a number in decimal digits, without leading zeros
 --   line                        words with a space between them, and a newline
+--   kindWord                    the word of a kind
 --   headLine nodeLine           the first line, and the line of a node
 --   refusalLine                 the line of a refusal
---   reportText                  the first line and those of the nodes
+--   linesTo reportText          the lines of the first n nodes; the first line and those of the nodes
 --   lineIn groupsText           the line of a node and the report of a table, as kinds and groups have them
---   tableText                   the report of a table by its trees
---   fileText                    the report of a file
+--   factsLine tableText         the line of a node and the report of a table, by the trees of its nodes
+--   readingText fileText        the report of what was read of a file, and of a file
 use Prim.Native.Nat.{ℕ, zero, suc, _+_, _/_, _%_}
 use Prim.Native.Char.{code}
 use Prim.Native.String as string

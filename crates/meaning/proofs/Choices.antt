@@ -1,4 +1,4 @@
--- Laws of the smallest number that passes a test.
+-- Laws of the smallest number that passes a test, and of lists of which some member does.
 --
 --   least-le          it is at most the bound
 --   least-passes      below the bound, it passes
@@ -6,14 +6,18 @@
 --   least-unique      a number with these properties is it
 --   least-none        where no number below the bound passes, it is the bound
 --   either            a test passes or fails
+--   In only           a member of a list; the one member of a list of one
+--   any-none any-some     no member passes, so none does; a member passes, so some does
 -- Assumes nothing.
 use Prim.Native.Nat.{ℕ, zero, suc, _≤_, _<_, zero-le, suc-le-suc}
 use mathlib.Core.Path.{_≡_, refl, ap, sym, _∙_, subst}
 use mathlib.Core.Bool.{Bool, true, false, cond, true≢false}
+use mathlib.Core.List.{List, [], _∷_}
 use mathlib.Core.Logic.{_⊎_, inl, inr}
 use native.Mathlib.Nat.{le-of-suc-le-suc, not-suc-le-zero}
 use native.Mathlib.Omega.{arith}
-use Rattle.meaning.specs.Choice.{least}
+use Rattle.meaning.specs.Choice.{any, least}
+use Rattle.meaning.proofs.Tests.{or-none, or-inl, or-inr}
 
 pub either : (b : Bool) → (b ≡ true) ⊎ (b ≡ false)
 either true = inl refl
@@ -62,3 +66,21 @@ least-none p n none = least-unique p n n (omega arith) none (λ h. absurd (not-l
   where
     not-less : n < n → ⊥
     not-less h = omega arith
+
+-- A member of a list.
+abbrev pub In : {A : Type 0} → A → List A → Type 0
+In x [] = ⊥
+In x (y ∷ ys) = (x ≡ y) ⊎ In x ys
+
+pub only : {A : Type 0} (P : A → Type 0) (y : A) → P y → (x : A) → In x (y ∷ []) → P x
+only P y p x (inl e) = subst P (sym e) p
+only P y p x (inr i) = absurd i
+
+pub any-none : {A : Type 0} (p : A → Bool) (ys : List A) → ((x : A) → In x ys → p x ≡ false) → any p ys ≡ false
+any-none p [] f = refl
+any-none p (y ∷ ys) f = or-none (p y) (any p ys) (f y (inl refl)) (any-none p ys (λ x i. f x (inr i)))
+
+pub any-some : {A : Type 0} (p : A → Bool) (ys : List A) (x : A) → In x ys → p x ≡ true → any p ys ≡ true
+any-some p [] x i h = absurd i
+any-some p (y ∷ ys) x (inl e) h = or-inl (p y) (any p ys) (ap p (sym e) ∙ h)
+any-some p (y ∷ ys) x (inr i) h = or-inr (p y) (any p ys) (any-some p ys x i h)

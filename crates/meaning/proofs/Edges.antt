@@ -1,5 +1,5 @@
 -- Edges that the marked samples do not reach, computed by the definitions: each would show a wrong reading of document 01, or of
--- document 02, whose the groups are.
+-- document 02, which has the groups.
 --
 --   fileEdges tableEdges byteEdges      files; tables; each byte of a group
 --   recordEdges wordEdges               records; words, buffers and the hash state

@@ -1,12 +1,20 @@
 -- Laws of the ladder: how a part of it answers for the whole, and what an accepted table is.
 --
+--   numberOf placeOf            the number and the place of a refusal
+--   same-refusal                a refusal is the same refusal of a call with another kind of value
 --   ladder-pass ladder-stop     a first part that accepts hands on to the rest; one that refuses decides
 --   ladder-parts                a ladder in two parts accepts where both do
 --   ladder-holds                a rung whose fact holds refuses
 --   ladder-fails                a rung whose fact fails hands on
+--   ladder-clear                an accepted ladder's first rung fails, and the others accept
 --   ladder-value                a ladder accepts nothing but its value
 --   accepted-refused            an accepted answer is no refusal
+--   Shape shapeRight            the count and the columns of an accepted table, as facts; the test of them
+--   shape-right right-shape     the test passes exactly if they hold
+--   sound-shape                 they hold of a sound table
+--   bad                         the test that a node is at fault
 --   sound-accepted accepted-sound   `check_table` accepts exactly the sound tables
+--   present-pass                a call that names nodes of a sound table passes 1 and 2
 --   kept-refused kept-accepted  a buffer after a refusal, and after an accepted call
 -- Assumes nothing.
 use Prim.Native.Nat.{ℕ, zero, suc, _≤_, _<_}
@@ -17,14 +25,14 @@ use native.Mathlib.Omega.{arith}
 use native.Mathlib.Nat.{le-of-eq}
 use lib.Dec.{ltb, leb}
 use lib.ListN.{length}
-use borrow.Author.Tests.{ltb-true, ltb-false, leb-true, le-leb, le-ltb, not-true, not-false}
-use Rattle.meaning.specs.Choice.{least}
+use borrow.Author.Tests.{ltb-true, ltb-false, leb-true, le-leb, le-ltb, lt-leb, not-true, not-false}
+use Rattle.meaning.specs.Choice.{any, least}
 use Rattle.meaning.specs.Tables.{Table, countRight, columnsReach, factsReach, reaches, entryRight, factsRight, firstBad}
-use Rattle.meaning.specs.Ladder.{Answer, refused, accepted, Rung, rung, ladder, kept, sound}
+use Rattle.meaning.specs.Ladder.{Answer, refused, accepted, Rung, rung, ladder, kept, sound, present}
 use Rattle.meaning.specs.Checked.{Sound}
 use Rattle.meaning.specs.TypeCalls.{checkTableCall}
 use Rattle.meaning.proofs.Tests.{and-left, and-right, and-both}
-use Rattle.meaning.proofs.Choices.{least-le, least-before, least-none}
+use Rattle.meaning.proofs.Choices.{least-le, least-before, least-none, In, any-none}
 
 -- What an answer is: a code that tells the two cases apart.
 abbrev isAccepted : {A : Type 0} → Answer A → Bool
@@ -205,3 +213,10 @@ sound-accepted t s =
   where
     fine : (k : ℕ) → k < t .count → bad t k ≡ false
     fine k l = rw (s .entries k l, s .told k l)
+
+pub present-pass : (t : Table) → Sound t → (ns : List ℕ) → ((n : ℕ) → In n ns → n < t .count) → {A : Type 0} (rs : List Rung) (a : A)
+    → ladder (sound t ++ (present t ns ++ rs)) a ≡ ladder rs a
+present-pass t s ns h rs a =
+    let missing : ℕ → Bool = λ n. leb (t .count) n in
+    ladder-pass (sound t) (present t ns ++ rs) (tt {0}) (tt {0}) a (sound-accepted t s)
+    ∙ ladder-fails (any missing ns) 2 0 rs a (any-none missing ns (λ n i. lt-leb (t .count) n (h n i)))

@@ -1,69 +1,67 @@
 -- The limits of 3 and 4 on both sides, and types that lie there.
 --
---   limits-pass                 a named type of at most 524,288 bits and a size of at most 2,097,152 passes both
---   wide-refused large-refused  one of more bits is refused with 3; one of a greater size that is not too wide, with 4
+--   limits-pass                 a call whose named types all have at most 524,288 bits and a size of at most 2,097,152 passes both
+--   wide-refused large-refused  where one has more bits, it is refused with 3; where none has, but one a greater size, with 4
 --   size-odd                    every size is odd, so that the last within the limit of 4 is 2,097,151 and the first past it 2,097,153
 --   nineteen-fits twenty-wide   word type 19 has the most bits, and the greatest size, that pass; word type 20 has too many bits
 --   nineteen-passes twenty-refused      so a call that names word type 19 passes both; one that names word type 20 answers 3
 --   bit-more unit-more          one bit past the limit of 3; at that limit, and one unit past the limit of 4
---   empties bits-empties size-empties   2 to the n units, joined by products: no bits, and one less than 2 to the n + 1 nodes
+--   empties bits-empties size-empties   2 to the n units, joined by products: no bits, and 2^(n + 1) − 1 nodes
 --   empties-fit empties-large   both sides of the limit of 4, without a bit
 -- Assumes nothing.
 use Prim.Native.Nat.{ℕ, zero, suc, _+_, _*_, _%_, _^_, _≤_, _<_}
 use mathlib.Core.Path.{_≡_, refl, ap, ap₂, _∙_}
-use mathlib.Core.Bool.{Bool, false, _||_}
+use mathlib.Core.Bool.{Bool}
+use mathlib.Core.Logic.{inl}
 use mathlib.Core.List.{List, [], _∷_, _++_}
 use native.Mathlib.Nat.{two-pow-succ}
 use native.Mathlib.Omega.{arith}
-use lib.Dec.{ltb, leb}
+use lib.Dec.{ltb}
 use lib.Pow.{pow-mono}
-use borrow.Author.Tests.{lt-ltb, le-ltb, lt-leb}
+use borrow.Author.Tests.{lt-ltb, le-ltb}
+use Rattle.meaning.specs.Choice.{any}
 use Rattle.meaning.specs.Types.{Ty, unit, sum, prod, bits, size}
 use Rattle.meaning.specs.Tables.{Table}
 use Rattle.meaning.specs.Words.{word}
-use Rattle.meaning.specs.Ladder.{refused, Rung, rung, ladder, typeAt, widest, largest, sound, present, small, named}
+use Rattle.meaning.specs.Ladder.{refused, Rung, rung, ladder, typeAt, widest, largest, small, named}
 use Rattle.meaning.specs.Checked.{Sound}
-use Rattle.meaning.proofs.Tests.{or-inl, or-none}
-use Rattle.meaning.proofs.Ladders.{ladder-pass, ladder-holds, ladder-fails, sound-accepted}
+use Rattle.meaning.proofs.Choices.{In, only, any-none, any-some}
+use Rattle.meaning.proofs.Ladders.{ladder-holds, ladder-fails, present-pass}
 use Rattle.meaning.proofs.Words.{bits-word, size-word}
 
--- A call that names one record type, of a node of a sound table, whatever rungs follow and whatever it answers.
-module _ (t : Table) (s : Sound t) (n : ℕ) (h : n < t .count) {A : Type 0} (rs : List Rung) (a : A) where
+-- A call that names nodes of a sound table as record types, whatever rungs follow and whatever it answers.
+module _ (t : Table) (s : Sound t) (ns : List ℕ) (h : (n : ℕ) → In n ns → n < t .count) {A : Type 0} (rs : List Rung) (a : A) where
   -- The tests of 3 and 4.
-  abbrev wide : Bool
-  wide = ltb widest (bits (typeAt t n))
+  abbrev wide : ℕ → Bool
+  wide n = ltb widest (bits (typeAt t n))
 
-  abbrev large : Bool
-  large = ltb largest (size (typeAt t n))
+  abbrev large : ℕ → Bool
+  large n = ltb largest (size (typeAt t n))
 
   -- 1 and 2 do not apply.
-  here : ladder (named t (n ∷ []) ++ rs) a ≡ ladder (small t (n ∷ []) ++ rs) a
-  here =
-      ladder-pass (sound t) (present t (n ∷ []) ++ (small t (n ∷ []) ++ rs)) (tt {0}) (tt {0}) a (sound-accepted t s)
-      ∙ ladder-fails (leb (t .count) n || false) 2 0 (small t (n ∷ []) ++ rs) a (or-none (leb (t .count) n) false (lt-leb (t .count) n h) refl)
+  here : ladder (named t ns ++ rs) a ≡ ladder (small t ns ++ rs) a
+  here = present-pass t s ns h (small t ns ++ rs) a
 
   -- Nor does 3.
-  narrow : bits (typeAt t n) ≤ widest → ladder (named t (n ∷ []) ++ rs) a ≡ ladder (rung (large || false) 4 0 ∷ rs) a
+  narrow : ((n : ℕ) → In n ns → bits (typeAt t n) ≤ 524288) → ladder (named t ns ++ rs) a ≡ ladder (rung (any large ns) 4 0 ∷ rs) a
   narrow w =
       here
-      ∙ ladder-fails (wide || false) 3 0 (rung (large || false) 4 0 ∷ rs) a
-      (or-none wide false (le-ltb widest (bits (typeAt t n)) w) refl)
+      ∙ ladder-fails (any wide ns) 3 0 (rung (any large ns) 4 0 ∷ rs) a (any-none wide ns (λ n i. le-ltb 524288 (bits (typeAt t n)) (w n i)))
 
-  pub limits-pass : bits (typeAt t n) ≤ 524288 → size (typeAt t n) ≤ 2097152 → ladder (named t (n ∷ []) ++ rs) a ≡ ladder rs a
+  pub limits-pass : ((n : ℕ) → In n ns → bits (typeAt t n) ≤ 524288) → ((n : ℕ) → In n ns → size (typeAt t n) ≤ 2097152)
+      → ladder (named t ns ++ rs) a ≡ ladder rs a
   limits-pass w z =
-      narrow (omega arith)
-      ∙ ladder-fails (large || false) 4 0 rs a (or-none large false (le-ltb largest (size (typeAt t n)) (omega arith)) refl)
+      narrow w ∙ ladder-fails (any large ns) 4 0 rs a (any-none large ns (λ n i. le-ltb 2097152 (size (typeAt t n)) (z n i)))
 
-  pub wide-refused : 524288 < bits (typeAt t n) → ladder (named t (n ∷ []) ++ rs) a ≡ refused 3 0
-  wide-refused w =
+  pub wide-refused : (n : ℕ) → In n ns → 524288 < bits (typeAt t n) → ladder (named t ns ++ rs) a ≡ refused 3 0
+  wide-refused n i w =
       here
-      ∙ ladder-holds (wide || false) 3 0 (rung (large || false) 4 0 ∷ rs) a
-      (or-inl wide false (lt-ltb widest (bits (typeAt t n)) (omega arith)))
+      ∙ ladder-holds (any wide ns) 3 0 (rung (any large ns) 4 0 ∷ rs) a (any-some wide ns n i (lt-ltb 524288 (bits (typeAt t n)) w))
 
-  pub large-refused : bits (typeAt t n) ≤ 524288 → 2097152 < size (typeAt t n) → ladder (named t (n ∷ []) ++ rs) a ≡ refused 4 0
-  large-refused w z =
-      narrow (omega arith)
-      ∙ ladder-holds (large || false) 4 0 rs a (or-inl large false (lt-ltb largest (size (typeAt t n)) (omega arith)))
+  pub large-refused : ((n : ℕ) → In n ns → bits (typeAt t n) ≤ 524288) → (n : ℕ) → In n ns → 2097152 < size (typeAt t n)
+      → ladder (named t ns ++ rs) a ≡ refused 4 0
+  large-refused w n i z =
+      narrow w ∙ ladder-holds (any large ns) 4 0 rs a (any-some large ns n i (lt-ltb 2097152 (size (typeAt t n)) z))
 
 pub size-odd : (t : Ty) → size t % 2 ≡ 1
 unfolding size
@@ -116,11 +114,16 @@ empties-large = beside (empties 20) 0 (empties-fit .0) (empties-fit .1)
 
 -- A call that names one of these, whatever rungs follow and whatever it answers.
 module _ (t : Table) (s : Sound t) (n : ℕ) (h : n < t .count) {A : Type 0} (rs : List Rung) (a : A) where
+  -- The one node that it names.
+  one : (m : ℕ) → In m (n ∷ []) → m < t .count
+  one = only (λ (m : ℕ). m < t .count) n h
+
   pub nineteen-passes : typeAt t n ≡ word 19 → ladder (named t (n ∷ []) ++ rs) a ≡ ladder rs a
   nineteen-passes e =
       let b = ap bits e ∙ nineteen-fits .0 in
       let z = ap size e ∙ nineteen-fits .1 in
-      limits-pass t s n h rs a (omega arith) (omega arith)
+      limits-pass t s (n ∷ []) one rs a (only (λ (m : ℕ). bits (typeAt t m) ≤ 524288) n (omega arith))
+      (only (λ (m : ℕ). size (typeAt t m) ≤ 2097152) n (omega arith))
 
   pub twenty-refused : typeAt t n ≡ word 20 → ladder (named t (n ∷ []) ++ rs) a ≡ refused 3 0
-  twenty-refused e = let b = ap bits e in let w = twenty-wide in wide-refused t s n h rs a (omega arith)
+  twenty-refused e = let b = ap bits e in let w = twenty-wide in wide-refused t s (n ∷ []) one rs a n (inl refl) (omega arith)

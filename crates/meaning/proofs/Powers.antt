@@ -1,14 +1,15 @@
--- Powers of two, as their digits tell them.
+-- Powers of two.
 --
 --   pow-injective               no two exponents give one power
 --   ones-pow                    one digit is set
 --   trailing-pow                as many zeros stand below it as the exponent says
+--   pow-twelve                  up to 2^12, those of the segments of a buffer, they lie between 1 and 4,096
 -- Assumes nothing.
-use Prim.Native.Nat.{ℕ, zero, suc, _+_, _*_, _/_, _%_, _^_, _<_}
+use Prim.Native.Nat.{ℕ, zero, suc, _+_, _*_, _/_, _%_, _^_, _≤_, _<_}
 use mathlib.Core.Path.{_≡_, refl, ap, ap₂, sym, _∙_, subst}
 use native.Mathlib.Nat.{two-pow-succ, not-suc-le-zero, le-of-suc-le-suc, lt-irrefl, add-zero, one-mul}
 use native.Mathlib.Omega.{arith}
-use lib.Pow.{pow-lt, pow-pos}
+use lib.Pow.{pow-lt, pow-pos, pow-mono}
 use lib.Count.{ones, trailingZeros, under, ones-cat}
 
 pub pow-injective : (m n : ℕ) → 2 ^ m ≡ 2 ^ n → m ≡ n
@@ -32,3 +33,6 @@ trailing-pow (suc d) (suc k) h =
     let even : 2 ^ suc k % 2 ≡ 0 = omega arith in
     let half : 2 ^ suc k / 2 ≡ 2 ^ k = omega arith in
     ap₂ (λ (x y : ℕ). under x (trailingZeros d y)) even half ∙ ap suc (trailing-pow d k (le-of-suc-le-suc h))
+
+pub pow-twelve : (k : ℕ) → k < 13 → (1 ≤ 2 ^ k) × (2 ^ k ≤ 4096)
+pow-twelve k h = let p = pow-pos k in let m : 2 ^ k ≤ 2 ^ 12 = pow-mono {i = k} {j = 12} (omega arith) in (omega arith, omega arith)

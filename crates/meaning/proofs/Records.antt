@@ -3,7 +3,10 @@
 --   length-left length-right length-first length-second     payloads and parts are records of their types
 --   length-inLeft length-inRight length-pair                so are the records made of them
 --   compact-most                a record has at most as many compact bits as its type is wide
+--   Unpadded                    two types without padding, below the end
 --   unpadded-sum unpadded-prod  what an unpadded type is made of, below the end
+--   no-bits                     a list of no bits is empty
+--   bits-unit bits-sum bits-prod        the true width of unit, of a sum and of a product
 --   unpadded-compact            a record of an unpadded type is its own compact bits
 --   same-bits bits-same         equality of bits
 -- Assumes nothing.

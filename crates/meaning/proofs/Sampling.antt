@@ -1,4 +1,11 @@
 -- How samples are put: tables read from their files, and what a call says, all in one type.
+--
+--   tableS tableB               table S; one with the words 0 to 4 and buffer types 0 and 1: each is what its file says
+--   Said                        what a call answers, or leaves in its output
+--   Sample defined paper        what the definitions say and what the paper says, and each of the two
+--   spare                       an output of two bytes
+--   one                         a record that begins a byte
+-- Assumes nothing.
 use mathlib.Core.Bool.{Bool}
 use mathlib.Core.List.{List, [], _∷_}
 use Prim.Native.Nat.{ℕ, Ordering}

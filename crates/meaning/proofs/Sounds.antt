@@ -3,7 +3,8 @@
 --   sound-right                 the entries up to a node are right
 --   sound-tree                  its tree is made of its sides' trees
 --   sound-kind                  its kind is 0, 1 or 2
---   sound-left sound-right-side     its sides are in the table; of a sum and a product they stand earlier (-falls)
+--   sound-left sound-right-side     its sides are in the table
+--   sound-left-falls sound-right-falls      those of a sum and a product stand earlier
 --   sound-width sound-size sound-digit sound-padded sound-class     its facts are those of its tree
 -- Assumes nothing.
 use Prim.Native.Nat.{ℕ, zero, suc, _≤_, _<_}

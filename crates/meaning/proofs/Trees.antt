@@ -1,6 +1,6 @@
 -- The tree law of sound tables, and what classes say.
 --
---   RightTo                     the entries up to a node are right
+--   RightTo right-below         the entries up to a node are right; so they are up to an earlier one
 --   ty-node                     a node's tree is made of its sides' trees
 --   sides-below                 the sides of a sum or a product stand earlier
 --   class-le class-tree         a class is at most its node, and has the same tree

@@ -1,7 +1,7 @@
 -- The refusal ladder: document 01, "The refusal ladder". A call's answer is a list of rungs in the order of their numbers: the first whose
 -- fact holds refuses, and where none holds the call is accepted.
 --
---   Answer rung ladder          answers, a fact with its number and place, the first that holds
+--   Answer Rung ladder          answers, a fact with its number and place, the first that holds
 --   kept                        a lent buffer afterwards: as it stood if refused
 --   Record record-of Stream stream-of       bytes, offset and node; bytes, length and position, in bits
 --   typeAt typeOf               the type of a node, and of a record

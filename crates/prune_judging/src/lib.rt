@@ -1,4 +1,5 @@
-// Whether a record can be cut to a target: a walk that only reads. Equal types means equal class, never equal nodes.
+// Whether a record can be cut to a target: a walk that only reads. Equal types means equal class, never equal nodes. The walk recurses on node
+// numbers, which fall at every call.
 ghost use mathlib.Core.Path.{_≡_};
 ghost use Rattle.meaning.specs.Types.{bits};
 ghost use Rattle.meaning.specs.Tables.{table};

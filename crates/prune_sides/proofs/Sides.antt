@@ -1,6 +1,7 @@
 -- The sides of a sum and of a product that were read from a sound table, as a walk of a cut needs them.
 --
 --   side-bits before-some some-bits     a sum is its tag and padding, of which there is some, and a side
+--   sum-bits                    a node of kind 1 has at least one bit
 --   Under under                 the side of a sum under a tag: its place, its width, its number
 --   Parts parts                 the sides of a product, one after the other
 -- Assumes nothing.

@@ -3,6 +3,8 @@
 --   cuts                        whether the record that a walk was sent to can be cut to its target
 --   record-bits cut-bits        the record has as many bits as its type; an accepted cut has as many as the target
 --   Step                        a walk whose record's node and whose target were read
+--   equal-bits equal-width      nodes of one class are of one width, as it was read and as it is
+--   unit-width                  a target of kind 0 has no bits
 --   step-equal step-unit step-unlike step-like      the cut where a rule needs no further walk
 --   SumStep two-sums step-sum accepts-sum       the cut of a sum, by the cut of its payload
 --   named-sum run-sum falls-sum         the walk to the payload

@@ -3,6 +3,7 @@
 --   Written                     the claim: the cut of a record was pasted over the bits of the output
 --   written-equal written-unit written-sum written-product      one for each rule
 --   lies-sum lies-first lies-second     where the payload and the parts have their place in the output
+--   cuts-first cuts-second      where a product can be cut, its first part can be, and so can its second
 -- Assumes nothing.
 use mathlib.Core.Path.{_≡_, ap, ap₂, sym, _∙_}
 use mathlib.Core.Bool.{Bool, true}

@@ -1,4 +1,5 @@
-// Writes the cut of a record, by the four rules of document 01 in their order. Equal types means equal class, never equal nodes.
+// Writes the cut of a record, by the four rules of document 01 in their order. Equal types means equal class, never equal nodes. The walk
+// recurses on node numbers, which fall at every call.
 ghost use mathlib.Core.Path.{_≡_};
 ghost use mathlib.Core.Bool.{true};
 ghost use lib.Seq.{paste};

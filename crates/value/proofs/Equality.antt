@@ -1,7 +1,8 @@
 -- Equality of records is an equivalence.
 --
 --   equal-is                    what it answers of two held records
---   equal-means                 what a yes means: the same type and the same bits; and where both are, the answer is yes
+--   Same                        two records have the same type and the same bits
+--   equal-means same-equal      a yes means this; and of two held records of which it is so, the answer is yes
 --   equal-reflexive equal-symmetric equal-transitive
 -- Assumes nothing.
 use mathlib.Core.Path.{_≡_, refl, sym, ap, ap₂, _∙_, subst}

@@ -3,7 +3,6 @@ pub mod Equality
 pub mod OwnBits
 pub mod OwnViews
 pub mod RoundTrips
-pub mod SideTypes
 pub mod SubViews
 pub mod TotalOrder
 pub mod Two

@@ -1,5 +1,5 @@
--- The views read the own bits of a record alone: records that agree (`Agree`: one node, both past their bytes or neither, the same own bits)
--- are seen alike, wherever they lie and whatever surrounds them.
+-- The views read the own bits of a record alone: records that agree (`Agree`: one node, both past their bytes or neither, the same own bits),
+-- and whose offset plus width is a 64-bit number of both or of neither (`far`), are seen alike, wherever they lie and whatever surrounds them.
 --
 --   told                        an answer with its value told in another way
 --   from fromBoth               the answer of a view, and of `as_product`: each offset counted from another, here the record's own

@@ -1,10 +1,11 @@
 -- A view of what a constructor made is the payload again, bit for bit.
 --
+--   written-held                    a record that was written at bit 0 lies within its bytes
 --   Again                           a view of a record that was made shows this payload
 --   left-again right-again some-again       as_left of left, as_right of right and of some
 --   AgainBoth product-again         as_product of product
 -- Assumes nothing.
-use Prim.Native.Nat.{ℕ, _+_, _-_, _*_, _≤_}
+use Prim.Native.Nat.{ℕ, _+_, _-_, _≤_}
 use mathlib.Core.Path.{_≡_, refl, sym, ap, ap₂, _∙_, subst}
 use mathlib.Core.Bool.{Bool, true, false, _&&_}
 use mathlib.Core.List.{List, [], _∷_, _++_}
@@ -13,7 +14,7 @@ use lib.ListN.{length, take, drop, length-append}
 use lib.Seq.{take-at, drop-at}
 use Rattle.meaning.specs.Types.{Ty, same, bits, isSum, isProd, leftSide, rightSide}
 use Rattle.meaning.specs.Tables.{Table, left, right}
-use Rattle.meaning.specs.Bits.{bitsOf, zeros, room, written}
+use Rattle.meaning.specs.Bits.{room, written}
 use Rattle.meaning.specs.Records.{tag}
 use Rattle.meaning.specs.Ladder.{Answer, accepted, ladder, Record, record-of, typeAt, typeOf, recordBits, shaped}
 use Rattle.meaning.specs.RecordCalls.{Spot, Spots, handed, asLeftCall, asRightCall, asProductCall, productBits}
@@ -23,11 +24,11 @@ use Rattle.meaning.proofs.Tests.{and-left, and-right}
 use Rattle.meaning.proofs.Types.{same-eq}
 use Rattle.meaning.proofs.Records.{bits-prod}
 use Rattle.laws.proofs.RecordParts.{leftOf-inLeft, rightOf-inRight}
-use Rattle.bits.proofs.Packed.{length-written, bitsOf-written}
+use Rattle.bits.proofs.Packed.{length-written}
 use Rattle.checked.specs.Passed.{Named, Held}
 use Rattle.checked.proofs.Passed.{handed-passed}
 use Rattle.checked.proofs.Passes.{held-passes}
-use Rattle.checked.proofs.Made.{accepts}
+use Rattle.checked.proofs.Made.{accepts, written-bits}
 use Rattle.checked.proofs.Nodes.{before-payload}
 use Rattle.checked.proofs.Shaped.{shape-accepted}
 use Rattle.checked.specs.Sides.{sideType, padding, says, wrapped}
@@ -37,20 +38,14 @@ use Rattle.value_making.specs.Wraps.{wrapBits}
 use Rattle.checked.proofs.Lent.{own-length}
 use Rattle.value_making.proofs.Payloads.{wrapped-length, some-fits}
 use Rattle.value_views.proofs.Viewed.{payload-seen, parts-seen}
-use Rattle.value.proofs.SideTypes.{sum-tree, prod-tree}
+use Rattle.checked.proofs.SideTypes.{sum-tree, prod-tree}
 use Rattle.value.proofs.SubViews.{shown, payload-shows, parts-show}
 
 -- ---- A record that was written at bit 0
 
-module _ (t : Table) (c : ℕ) (v : List Bool) (out : List ℕ) (h : length v ≡ bits (typeAt t c)) where
-  pub written-bits : recordBits t (record-of (written v out) 0 c) ≡ v
-  unfolding recordBits
-  written-bits =
-      ap (take (bits (typeAt t c))) (bitsOf-written v out)
-      ∙ take-at v (zeros (8 * room (length v) - length v) ++ drop (8 * room (length v)) (bitsOf out)) (bits (typeAt t c)) h
-
-  pub written-held : Named t c → room (length v) ≤ length out → Held t (record-of (written v out) 0 c)
-  written-held n r = record { named = n; ends = omega (arith, length-written v out r) }
+pub written-held : (t : Table) (c : ℕ) (v : List Bool) (out : List ℕ) → length v ≡ bits (typeAt t c) → Named t c → room (length v) ≤ length out
+    → Held t (record-of (written v out) 0 c)
+written-held t c v out h n r = record { named = n; ends = omega (arith, length-written v out r) }
 
 -- ---- Sums, over the tag
 

@@ -1,9 +1,12 @@
 -- Views move offset and node only: what they show is a record of the same bytes, of the side's type, and its bits are the payload, or the
 -- part, of the whole record. So views can be taken of views.
 --
---   Shows                       a place in a record's bytes holds a record within them, of this type, with these bits
---   left-view right-view        the payload of a sum
---   product-view                the parts of a product
+--   shown                       the record at a place in the bytes of another
+--   Shows                       it lies within them, is of this type, and has these bits
+--   ShowsBoth                   two places in a record's bytes hold the parts of a product
+--   payload-shows parts-show    the place of a sum's payload shows it, over the tag; those of a product's parts show them
+--   left-view right-view        so does an accepted `as_left`, and an accepted `as_right`
+--   product-view                and an accepted `as_product`
 -- Assumes nothing.
 use Prim.Native.Nat.{ℕ, _+_, _-_, _≤_}
 use mathlib.Core.Path.{_≡_, sym, ap, _∙_, subst}
@@ -28,7 +31,7 @@ use Rattle.bits.proofs.Runs.{take-run, drop-run}
 use Rattle.checked.specs.Sides.{sideNode, sideType, padding, says}
 use Rattle.value_views.specs.Views.{payloadSpot, payloadRungs, partsSpots, partsRungs}
 use Rattle.checked.proofs.Nodes.{before-payload}
-use Rattle.value.proofs.SideTypes.{sum-tree, prod-tree, prod-named, side-type-is, side-named}
+use Rattle.checked.proofs.SideTypes.{sum-tree, prod-tree, prod-named, side-type-is, side-named}
 
 -- The record at a place in the bytes of another.
 abbrev pub shown : Record → Spot → Record

@@ -1,6 +1,6 @@
 -- The order of records is total, and agrees with equality.
 --
---   turned compare-turned           the order the other way round
+--   turn turned compare-turned      an order, an answer and the call the other way round
 --   compare-equal equal-compare     compare says Equal exactly if equal says yes
 --   AtMost                          compare says Less or Equal
 --   at-most-reflexive at-most-antisymmetric at-most-transitive at-most-total

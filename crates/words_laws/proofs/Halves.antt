@@ -21,9 +21,10 @@ use Rattle.checked.specs.Passed.{Named}
 use Rattle.checked.proofs.Passed.{handed-passed}
 use Rattle.checked.proofs.Made.{Accepted, accepts, made-length, made-record}
 use Rattle.checked.proofs.Shaped.{shape-accepted}
+use Rattle.checked.proofs.SideTypes.{prod-sides}
 use Rattle.bits.proofs.Lent.{record-length}
 use Rattle.words_laws.proofs.Joins.{join-types}
-use Rattle.words_laws.proofs.Views.{sides-of-product, product-seen, left-bits, right-bits}
+use Rattle.words_laws.proofs.Views.{product-seen, left-bits, right-bits}
 
 -- The answer of `as_product`: two places.
 abbrev pub places : ℕ → ℕ → ℕ → ℕ → Spots
@@ -43,8 +44,8 @@ pub join-halves : (t : Table) (a b : Record) (result : ℕ) (out : List ℕ) (w 
 join-halves t a b result out w h =
     record {
       seen = product-seen t result whole (typeOf t a) (typeOf t b) type (joinOut t a b result out) 0 ends low;
-      first-type = sides-of-product t result whole (typeOf t a) (typeOf t b) type .0;
-      second-type = sides-of-product t result whole (typeOf t a) (typeOf t b) type .1;
+      first-type = prod-sides t result whole (typeOf t a) (typeOf t b) type .0;
+      second-type = prod-sides t result whole (typeOf t a) (typeOf t b) type .1;
       first-bits =
           left-bits t result whole (typeOf t a) (typeOf t b) type (joinOut t a b result out) 0 ends low
           ∙ ap (take (bits (typeOf t a))) record-is

@@ -1,6 +1,7 @@
 -- The bits of a hash state, and its parts as views see them.
 --
---   length-state                830 bits
+--   kept-bytes                  the data that the buffer holds
+--   length-state                as many bits as the hash state's type is wide: 830
 --   state-buffer state-count state-midstate     where the buffer, the count and the midstate lie
 --   state-whole                 the three parts, written one after the other
 -- Assumes nothing.
@@ -10,11 +11,14 @@ use mathlib.Core.Bool.{Bool}
 use mathlib.Core.List.{List, _++_}
 use native.Mathlib.Nat.{le-of-eq}
 use native.Mathlib.Omega.{arith}
-use lib.ListN.{length, take, drop, length-append}
+use lib.ListN.{length, take, drop}
 use lib.Seq.{paste, take-all, take-at, drop-at, drop-drop}
+use Rattle.meaning.specs.Types.{prod}
 use Rattle.meaning.specs.Bits.{toBits, bitsOf}
-use Rattle.meaning.specs.Words.{bufferBits, HashState, ctx8Bits}
-use Rattle.meaning.proofs.Buffers.{buffer-five}
+use Rattle.meaning.specs.Words.{word, buffer, bufferBits, ctx8, HashState, ctx8Bits}
+use Rattle.meaning.proofs.Records.{length-pair}
+use Rattle.meaning.proofs.Words.{bits-word}
+use Rattle.meaning.proofs.Buffers.{buffer-five, bits-ctx8}
 use Rattle.bits.proofs.Numbers.{length-toBits}
 use Rattle.bits.proofs.OfBytes.{length-bitsOf}
 use Rattle.words_laws.proofs.Pieces.{paste-start, paste-part}
@@ -48,16 +52,14 @@ module _ (s : HashState) where
 
 module _ (s : HashState) (full : length (s .midstate) ≡ 32) where
   pub length-state : length (ctx8Bits s) ≡ 830
-  unfolding ctx8Bits
+  unfolding ctx8Bits ctx8
   length-state =
-      omega (
-        arith,
-        length-append (bufferBits 5 (kept-bytes s)) (toBits 64 (s .counted) ++ bitsOf (s .midstate)),
-        length-append (toBits 64 (s .counted)) (bitsOf (s .midstate)),
-        length-kept s,
-        length-toBits 64 (s .counted),
-        length-bitsOf (s .midstate),
-      )
+      let m : length (bitsOf (s .midstate)) ≡ 256 = omega (arith, length-bitsOf (s .midstate)) in
+      length-pair (buffer 5) (prod (word 6) (word 8)) (bufferBits 5 (kept-bytes s)) (toBits 64 (s .counted) ++ bitsOf (s .midstate))
+      (length-buffer 5 (kept-bytes s))
+      (length-pair (word 6) (word 8) (toBits 64 (s .counted)) (bitsOf (s .midstate)) (length-toBits 64 (s .counted) ∙ sym (bits-word 6))
+      (m ∙ sym (bits-word 8)))
+      ∙ bits-ctx8
 
   pub state-whole : (old : List Bool)
       → paste (paste (paste old 0 (bufferBits 5 (kept-bytes s)) 510) 510 (toBits 64 (s .counted)) 64) 574 (bitsOf (s .midstate)) 256

@@ -2,7 +2,8 @@
 --
 --   join-types                  a word twice, and the next word
 --   join-width                  a word is not empty
---   unjoined joined             the width that a join is asked for: 0 where the types do not join, or that of both words and half of the next
+--   unjoined joined             the width that a join is asked for: 0 exactly where the types do not join
+--   first-width second-width whole-width    where they join, that of the first word and of the second, and half of the next
 -- Assumes nothing.
 use Prim.Native.Nat.{ℕ, suc, _+_, _^_, _<_}
 use mathlib.Core.Path.{_≡_, refl, sym, ap, ap₂, _∙_}

@@ -3,7 +3,7 @@
 --   held-within                 a present segment's bytes are there
 --   present-bits absent-bits    the bits of a segment, by that bit of the length
 --   length-segment              a tag and eight bits a byte
---   held-drop                   what follows a segment is the data past what it holds
+--   held-drop held-most         what follows a segment is the data past what it holds, and it holds no more than there is
 --   segments segments-next      the segments below k, and the first of them
 --   length-buffer buffer-small  as many bits as the buffer type is wide, and how many that is at most
 --   parts-begin part-room part-next part-paste parts-end    segments written one after the other, from the first to the last
@@ -18,13 +18,13 @@ use native.Mathlib.Numerals.{one-add, add-one}
 use native.Mathlib.Decide.{decLe}
 use native.Mathlib.Omega.{arith}
 use lib.ListN.{length, take, drop, set, length-append, length-take, length-drop, length-replicate}
-use lib.Pow.{pow-mono}
 use lib.Seq.{paste, take-all, take-at, drop-at, drop-drop}
 use Rattle.meaning.specs.Types.{bits}
 use Rattle.meaning.specs.Bits.{odd, bitsOf, zeros}
 use Rattle.meaning.specs.Words.{segmentBits, afterSegment, buffer, bufferBits}
 use Rattle.bits.proofs.OfBytes.{length-bitsOf, take-bitsOf}
 use Rattle.meaning.proofs.Pasted.{paste-take, paste-append, set-as-paste}
+use Rattle.meaning.proofs.Powers.{pow-twelve}
 use Rattle.meaning.proofs.Buffers.{bits-segment, bits-buffer}
 use Rattle.words_laws.specs.Segments.{heldBy}
 use Rattle.words_laws.proofs.Pieces.{paste-part}
@@ -89,7 +89,7 @@ length-buffer (suc n) d =
 pub buffer-small : (n : ℕ) → n < 13 → bits (buffer n) ≤ 65541
 buffer-small n h =
     let b = bits-buffer n in
-    let p : 2 ^ n ≤ 2 ^ 12 = pow-mono {i = n} {j = 12} (omega arith) in
+    let p = pow-twelve n h in
     omega arith
 
 -- One segment of a buffer is written, where those above it are: `at` is how many bits they take, and `done` how many bytes they hold.

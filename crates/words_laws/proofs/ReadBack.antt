@@ -2,7 +2,8 @@
 --
 --   written-bytes               an output that whole bytes were written to
 --   word-bits word-bytes word-read      a word made of bytes: its own bits, the bytes that hold them, and the reader's answer and output
---   bytes-read-back array-read-back     the same of `u8` … `u512` and of `from_byte_array`
+--   BytesBack                   the bytes of a word, read back from its record, and by `word_from_bits` into another output
+--   bytes-read-back array-read-back     this of `u8` … `u512` and of `from_byte_array`
 --   number-read-back            the number of `u1`, `u2` and `u4`
 -- Assumes nothing.
 use Prim.Native.Nat.{ℕ, _+_, _-_, _*_, _^_, _≤_, _<_}

@@ -1,6 +1,8 @@
 -- The parts of a hash state, seen by views, are what was given.
 --
 --   StateParts state-parts      the buffer, the count and the midstate of `ctx8`, seen by `as_product` of the record and of its right part
+--   Proper                      what a hash state's types promise: bytes, a 64-bit count, at most 63 bytes that are used
+--   SameParts                   two hash states hold the same data, count and midstate
 --   state-injective             so no two hash states share a record: the bits tell the data held, the count and the midstate
 -- Assumes nothing.
 use Prim.Native.Nat.{ℕ, _+_, _*_, _^_, _≤_, _<_}
@@ -11,7 +13,7 @@ use native.Mathlib.Omega.{arith}
 use lib.Dec.{leb}
 use lib.ListN.{length, take, drop, length-take}
 use lib.Seq.{drop-drop}
-use Rattle.meaning.specs.Types.{prod, same, bits, top}
+use Rattle.meaning.specs.Types.{prod, same, bits, top, isProd}
 use Rattle.meaning.specs.Tables.{Table, left, right}
 use Rattle.meaning.specs.Bits.{toBits, bitsOf}
 use Rattle.meaning.specs.Words.{word, buffer, bufferBits, ctx8, HashState, ctx8Bits}
@@ -29,10 +31,11 @@ use Rattle.checked.specs.Passed.{Named}
 use Rattle.checked.proofs.Passed.{named-passed}
 use Rattle.checked.proofs.Made.{Accepted, accepts, made-length, made-record}
 use Rattle.checked.proofs.Shaped.{range-accepted}
+use Rattle.checked.proofs.SideTypes.{prod-sides, prod-named}
 use Rattle.words_laws.proofs.Distinct.{buffer-injective}
 use Rattle.words_laws.proofs.Halves.{places}
 use Rattle.words_laws.proofs.Hashed.{length-state, state-buffer, state-count, state-midstate}
-use Rattle.words_laws.proofs.Views.{sides-of-product, right-named, product-seen, left-bits, right-bits}
+use Rattle.words_laws.proofs.Views.{product-seen, left-bits, right-bits}
 
 -- The three parts of a hash state in an output: the views that lead to them, and their bits.
 pub record StateParts (t : Table) (s : HashState) (result : ℕ) (new : List ℕ) : Type 0 where
@@ -89,10 +92,10 @@ module _ (t : Table) (s : HashState) (full : length (s .midstate) ≡ 32) (resul
 
   -- The right part: its type, its width and its bits.
   rest-whole : Named t rest
-  rest-whole = right-named t result whole (buffer 5) (prod (word 6) (word 8)) type
+  rest-whole = prod-named t result whole (ap isProd type) .1
 
   rest-type : typeAt t rest ≡ prod (word 6) (word 8)
-  rest-type = sides-of-product t result whole (buffer 5) (prod (word 6) (word 8)) type .1
+  rest-type = prod-sides t result whole (buffer 5) (prod (word 6) (word 8)) type .1
 
   rest-wide : bits (typeAt t rest) ≡ 320
   rest-wide = ap bits rest-type ∙ bits-prod (word 6) (word 8) ∙ ap₂ _+_ (bits-word 6) (bits-word 8)

@@ -1,72 +1,32 @@
 -- A product in an output, as `as_product` sees it: its parts lie one after the other, and their bits are those of the parts.
 --
---   sides-of-product            the types of a product's sides
---   left-named right-named      its sides are within the limits, as it is
 --   product-seen                the answer of `as_product`
 --   left-bits right-bits        the own bits of the two views
 -- Assumes nothing.
-use Prim.Native.Nat.{ℕ, zero, suc, _+_, _*_, _-_, _≤_}
-use mathlib.Core.Path.{_≡_, sym, ap, _∙_, subst}
-use mathlib.Core.Bool.{not, true≢false}
+use Prim.Native.Nat.{ℕ, _+_, _*_, _-_, _≤_}
+use mathlib.Core.Path.{_≡_, sym, ap, _∙_}
+use mathlib.Core.Bool.{not}
 use mathlib.Core.List.{List, [], _∷_, _++_}
 use native.Mathlib.Omega.{arith}
 use lib.Dec.{ltb}
 use lib.ListN.{length, take, drop}
 use borrow.Author.Tests.{le-ltb}
-use Rattle.meaning.specs.Types.{Ty, prod, bits, size, top, isProd, leftSide, rightSide}
-use Rattle.meaning.specs.Tables.{Table, kind, left, right, node}
+use Rattle.meaning.specs.Types.{Ty, prod, bits, top, isProd, leftSide}
+use Rattle.meaning.specs.Tables.{Table, left, right}
 use Rattle.meaning.specs.Bits.{bitsOf}
 use Rattle.meaning.specs.Records.{firstOf, secondOf}
 use Rattle.meaning.specs.Ladder.{accepted, Rung, ladder, Record, record-of, typeAt, recordBits, shaped}
 use Rattle.meaning.specs.RecordCalls.{handed, addressed, asProductCall, Spots}
 use Rattle.meaning.proofs.Ladders.{ladder-pass, ladder-fails}
-use Rattle.meaning.proofs.Sounds.{sound-tree, sound-left, sound-right-side}
 use Rattle.meaning.proofs.Records.{bits-prod}
 use Rattle.bits.proofs.Runs.{take-run, drop-run}
 use Rattle.checked.specs.Passed.{Named}
 use Rattle.checked.proofs.Passes.{held-passes}
-
--- A node whose tree is a product has the product's sides.
-node-sides : (k : ℕ) (a b x y : Ty) → node k a b ≡ prod x y → (a ≡ x) × (b ≡ y)
-node-sides zero a b x y e = absurd (true≢false (sym (ap isProd e)))
-node-sides (suc zero) a b x y e = absurd (true≢false (sym (ap isProd e)))
-node-sides (suc (suc k)) a b x y e = (ap leftSide e, ap rightSide e)
+use Rattle.checked.proofs.SideTypes.{prod-sides}
 
 module _ (t : Table) (n : ℕ) (a : Named t n) (x y : Ty) (e : typeAt t n ≡ prod x y) where
-  pub sides-of-product : (typeAt t (left (t .columns) n) ≡ x) × (typeAt t (right (t .columns) n) ≡ y)
-  sides-of-product =
-      node-sides (kind (t .columns) n) (typeAt t (left (t .columns) n)) (typeAt t (right (t .columns) n)) x y
-      (sym (sound-tree t (a .sound) n (a .here)) ∙ e)
-
   whole : bits (typeAt t n) ≡ bits x + bits y
   whole = ap bits e ∙ bits-prod x y
-
-  -- Below the limit the size of a product is one more than its sides'.
-  sizes : (size x ≤ 2097152) × (size y ≤ 2097152)
-  unfolding size
-  sizes = let f : size (prod x y) ≤ 2097152 = subst (λ (z : Ty). size z ≤ 2097152) e (a .few) in (omega arith, omega arith)
-
-  pub left-named : Named t (left (t .columns) n)
-  left-named =
-      let w = whole in
-      let m = a .narrow in
-      record {
-        sound = a .sound;
-        here = sound-left t (a .sound) n (a .here);
-        narrow = subst (λ (z : Ty). bits z ≤ 524288) (sym (sides-of-product .0)) (omega arith);
-        few = subst (λ (z : Ty). size z ≤ 2097152) (sym (sides-of-product .0)) (sizes .0);
-      }
-
-  pub right-named : Named t (right (t .columns) n)
-  right-named =
-      let w = whole in
-      let m = a .narrow in
-      record {
-        sound = a .sound;
-        here = sound-right-side t (a .sound) n (a .here);
-        narrow = subst (λ (z : Ty). bits z ≤ 524288) (sym (sides-of-product .1)) (omega arith);
-        few = subst (λ (z : Ty). size z ≤ 2097152) (sym (sides-of-product .1)) (sizes .1);
-      }
 
   -- The record lies within its bytes, at an offset that leaves room for its views' offsets.
   module _ (bytes : List ℕ) (o : ℕ) (ends : o + bits (typeAt t n) ≤ 8 * length bytes) (low : o + bits (typeAt t n) ≤ top) where
@@ -101,7 +61,7 @@ module _ (t : Table) (n : ℕ) (a : Named t n) (x y : Ty) (e : typeAt t n ≡ pr
     unfolding recordBits
     left-bits =
         let w = whole in
-        ap (λ (z : Ty). take (bits z) (drop o (bitsOf bytes))) (sides-of-product .0)
+        ap (λ (z : Ty). take (bits z) (drop o (bitsOf bytes))) (prod-sides t n a x y e .0)
         ∙ sym (take-run (bitsOf bytes) o (bits (typeAt t n)) (bits x) (omega arith))
 
     pub right-bits : recordBits t (record-of bytes (o + bits x) (right (t .columns) n)) ≡ secondOf x (recordBits t (record-of bytes o n))
@@ -109,6 +69,6 @@ module _ (t : Table) (n : ℕ) (a : Named t n) (x y : Ty) (e : typeAt t n ≡ pr
     right-bits =
         let w = whole in
         let left-over : bits (typeAt t n) - bits x ≡ bits y = omega arith in
-        ap (λ (z : Ty). take (bits z) (drop (o + bits x) (bitsOf bytes))) (sides-of-product .1)
+        ap (λ (z : Ty). take (bits z) (drop (o + bits x) (bitsOf bytes))) (prod-sides t n a x y e .1)
         ∙ ap (λ (k : ℕ). take k (drop (o + bits x) (bitsOf bytes))) (sym left-over)
         ∙ sym (drop-run (bitsOf bytes) o (bits (typeAt t n)) (bits x))

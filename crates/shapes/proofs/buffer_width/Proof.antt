@@ -1,32 +1,29 @@
 -- `shapes::buffer_width` meets its contract: the closed form of a buffer's width. Assumes nothing.
-use Prim.Native.Nat.{ℕ, _^_, _≤_}
+use Prim.Native.Nat.{_^_}
 use mathlib.Core.Path.{_≡_, _∙_}
 use native.Mathlib.Omega.{arith}
 use borrow.Author.Needs.{needs}
-use lib.Pow.{pow-mono}
+use Rattle.meaning.proofs.Powers.{pow-twelve}
 use Rattle.meaning.proofs.WordWidths.{word-widths}
 use Rattle.meaning.proofs.Buffers.{bits-buffer}
 use Rattle.shapes.proofs.buffer_width.Statement.{statement}
 use Rattle.shapes.proofs.buffer_width.Tie as tie
 
--- The word's width is 2 to the n, which lies between 1 and 2^12.
+-- The word's width is 2 to the n.
 power : (c : tie.After-word-width) → c .word-width .result ≡ 2 ^ (c .before .args .n)
 power c = c .word-width .ensures ∙ word-widths (c .before .args .n) (omega arith)
-
-low : (n : ℕ) → n ≤ 12 → (2 ^ 0 ≤ 2 ^ n) × (2 ^ n ≤ 2 ^ 12)
-low n h = (pow-mono {i = 0} {j = n} (omega arith), pow-mono h)
 
 word-width-requires : tie.Need-word-width-requires
 word-width-requires c κs = search needs
 
 mul-result : tie.Need-mul-result
-mul-result c = let p = power c in let l = low (c .before .args .n) (omega arith) in omega arith
+mul-result c = let p = power c in let l = pow-twelve (c .before .args .n) (omega arith) in omega arith
 
 add-result : tie.Need-add-result
-add-result c = let p = power c in let l = low (c .before .args .n) (omega arith) in omega arith
+add-result c = let p = power c in let l = pow-twelve (c .before .args .n) (omega arith) in omega arith
 
 sub-result : tie.Need-sub-result
-sub-result c = let p = power c in let l = low (c .before .args .n) (omega arith) in omega arith
+sub-result c = let p = power c in let l = pow-twelve (c .before .args .n) (omega arith) in omega arith
 
 returns : tie.Need-returns
 returns c = let p = power c in let b = bits-buffer (c .before .args .n) in omega arith

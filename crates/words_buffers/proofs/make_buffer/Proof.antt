@@ -1,5 +1,5 @@
 -- `words_buffers::make_buffer` meets its contract: the ladder's 6, 7 and 9 in their order, then the segments. Assumes nothing.
-use Prim.Native.Nat.{ℕ, _+_, _*_, _^_, _≤_, _<_}
+use Prim.Native.Nat.{ℕ, _+_, _*_, _^_}
 use mathlib.Core.Path.{_≡_, sym, ap, _∙_}
 use mathlib.Core.Bool.{Bool, true, _&&_}
 use mathlib.Core.List.{List, [], _∷_}
@@ -8,7 +8,6 @@ use native.Mathlib.Numerals.{add-one}
 use native.Mathlib.Omega.{arith}
 use lib.Dec.{ltb}
 use lib.ListN.{length}
-use lib.Pow.{pow-mono}
 use lib.Seq.{paste}
 use borrow.Author.Needs.{needs}
 use borrow.Author.Tests.{lt-ltb, le-ltb, not-true, not-false}
@@ -19,6 +18,7 @@ use Rattle.meaning.specs.Words.{buffer, bufferBits}
 use Rattle.meaning.specs.Ladder.{accepted, Rung, ladder, named, typeAt}
 use Rattle.meaning.specs.WordCalls.{bufferRungs}
 use Rattle.meaning.proofs.Tests.{and-both, and-no-right}
+use Rattle.meaning.proofs.Powers.{pow-twelve}
 use Rattle.meaning.proofs.WordWidths.{word-widths}
 use Rattle.bits.proofs.OfBytes.{are-bytes}
 use Rattle.bits.proofs.Packed.{finished}
@@ -59,17 +59,17 @@ passed s = named-passes (of s) (s .pre .sound) (s .args .result ∷ []) (s .pre,
 abbrev start : tie.Else1 → tie.Start
 start c = c .before .before .before .before .before .before .before
 
--- The limit is 2 to the n + 1.
+-- The word's width is 2 to the n, and the limit 2 to the n + 1.
+power : (c : tie.After-word-width) → c .word-width .result ≡ 2 ^ ((start (c .before)) .args .n)
+power c = c .word-width .ensures ∙ word-widths ((start (c .before)) .args .n) (omega arith)
+
 limit-is : (c : tie.After-word-width) → 2 * c .word-width .result ≡ 2 ^ ((start (c .before)) .args .n + 1)
 limit-is c =
     let n = (start (c .before)) .args .n in
-    let e = c .word-width .ensures ∙ word-widths n (omega arith) in
+    let e = power c in
     let p = two-pow-succ n in
     let d : 2 * c .word-width .result ≡ 2 ^ n + 2 ^ n = omega arith in
     d ∙ sym p ∙ ap (λ (k : ℕ). 2 ^ k) (sym (add-one n))
-
-limit-most : (n : ℕ) → n < 13 → 2 ^ (n + 1) ≤ 2 ^ 13
-limit-most n h = pow-mono {i = n + 1} {j = 13} (omega arith)
 
 in-range : (c : tie.Else2) → ranges (start (c .before .before)) ≡ true
 in-range c =
@@ -95,7 +95,7 @@ word-width-requires : tie.Need-word-width-requires
 word-width-requires c κs = search needs
 
 mul-limit : tie.Need-mul-limit
-mul-limit c = let e = limit-is c in let m = limit-most ((start (c .before)) .args .n) (c .before .if1 .left) in record { fits = omega arith }
+mul-limit c = let e = power c in let m = pow-twelve ((start (c .before)) .args .n) (c .before .if1 .left) in record { fits = omega arith }
 
 returns-2 : tie.Need-returns-2
 returns-2 c =

@@ -1,28 +1,25 @@
 -- `words_segments::write_segment` meets its contract: a tag and the bytes, or zeros throughout. Assumes nothing.
-use Prim.Native.Nat.{ℕ, _+_, _*_, _/_, _%_, _^_, _≤_, _<_}
+use Prim.Native.Nat.{ℕ, _+_, _*_, _/_, _%_, _^_}
 use mathlib.Core.Path.{_≡_, sym, ap, ap₂, _∙_}
 use mathlib.Core.Bool.{Bool, true, false, cond}
 use mathlib.Core.List.{List}
 use native.Mathlib.Omega.{arith}
 use lib.Dec.{eqb}
 use lib.ListN.{length}
-use lib.Pow.{pow-mono}
 use lib.Seq.{paste}
 use borrow.Author.Needs.{needs}
 use borrow.Author.Tests.{eq-eqb, ne-eqb}
 use Rattle.meaning.specs.Bits.{odd, bitsOf, zeros}
+use Rattle.meaning.proofs.Powers.{pow-twelve}
 use Rattle.meaning.proofs.WordWidths.{word-widths}
 use Rattle.bits.proofs.OfBytes.{length-bitsOf}
 use Rattle.words_laws.proofs.Parts.{held-within, present-bits, absent-bits, paste-tagged}
 use Rattle.words_segments.proofs.write_segment.Statement.{statement}
 use Rattle.words_segments.proofs.write_segment.Tie as tie
 
--- The size is 2 to the k, which lies between 1 and 2^12.
+-- The size is 2 to the k.
 size-is : (c : tie.After-word-width) → c .word-width .result ≡ 2 ^ (c .before .before .before .args .k)
 size-is c = c .word-width .ensures ∙ word-widths (c .before .before .before .args .k) (omega arith)
-
-bounds : (k : ℕ) → k < 13 → (2 ^ 0 ≤ 2 ^ k) × (2 ^ k ≤ 2 ^ 12)
-bounds k h = (pow-mono {i = 0} {j = k} (omega arith), pow-mono {i = k} {j = 12} (omega arith))
 
 -- What the test says of the length.
 bit-set : (x size k : ℕ) → size ≡ 2 ^ k → x / size % 2 ≡ 1 → odd (x / 2 ^ k) ≡ true
@@ -37,13 +34,13 @@ word-width-requires : tie.Need-word-width-requires
 word-width-requires c κs = search needs
 
 mul-run : tie.Need-mul-run
-mul-run c = let e = size-is c in let b = bounds (c .before .before .before .args .k) (c .before .before .before .pre .0) in record { fits = omega arith }
+mul-run c = let e = size-is c in let b = pow-twelve (c .before .before .before .args .k) (c .before .before .before .pre .0) in record { fits = omega arith }
 
 add-whole : tie.Need-add-whole
-add-whole c = let e = size-is c in let b = bounds (c .before .before .before .args .k) (c .before .before .before .pre .0) in record { fits = omega arith }
+add-whole c = let e = size-is c in let b = pow-twelve (c .before .before .before .args .k) (c .before .before .before .pre .0) in record { fits = omega arith }
 
 div-if1 : tie.Need-div-if1
-div-if1 c = let e = size-is c in let b = bounds (c .before .before .before .args .k) (c .before .before .before .pre .0) in omega arith
+div-if1 c = let e = size-is c in let b = pow-twelve (c .before .before .before .args .k) (c .before .before .before .pre .0) in omega arith
 
 put-bit-requires : tie.Need-put-bit-requires
 put-bit-requires c κs = search needs
@@ -56,7 +53,7 @@ copy-bits-requires c κs =
     let s = c .before .before .before .before .before .before .before .before .before in
     let e = size-is (c .before .before .before .before .before .before) in
     let there = held-within (s .args .k) (length (s .args .held .now)) (bit-set (length (s .args .held .now)) (c .before .before .before .before .before .before .word-width .result) (s .args .k) e (c .before .before .before .before .before .if1 .taken)) in
-    let b = bounds (s .args .k) (s .pre .0) in
+    let b = pow-twelve (s .args .k) (s .pre .0) in
     (record { inside = omega arith; counted = omega arith }, record { inside = omega (arith, c .before .before .before .put-bit .kept .0); counted = omega arith })
 
 same-length : tie.Need-same-length

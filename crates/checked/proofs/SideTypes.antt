@@ -1,6 +1,7 @@
 -- The sides of a node of a sound table: their types, and that they are within the limits where the node is.
 --
 --   sum-tree prod-tree              the type of a sum, and of a product, by the columns
+--   prod-sides                      a node whose type is this product has its sides' types
 --   sum-named prod-named            both sides of a node within the limits are
 --   side-type-is side-named         one side of a sum, over the tag
 -- Assumes nothing.
@@ -53,6 +54,9 @@ module _ (t : Table) (n : ℕ) (h : Named t n) where
 
   pub prod-tree : isProd (typeAt t n) ≡ true → typeAt t n ≡ prod a b
   prod-tree e = tree ∙ prod-kind (kind (t .columns) n) a b (ap isProd (sym tree) ∙ e)
+
+  pub prod-sides : (x y : Ty) → typeAt t n ≡ prod x y → (typeAt t (left (t .columns) n) ≡ x) × (typeAt t (right (t .columns) n) ≡ y)
+  prod-sides x y e = let f = sym (prod-tree (ap isProd e)) ∙ e in (ap leftSide f, ap rightSide f)
 
   sides-named : (bits a ≤ bits (typeAt t n)) × (bits b ≤ bits (typeAt t n)) → (size a ≤ size (typeAt t n)) × (size b ≤ size (typeAt t n))
       → Named t (left (t .columns) n) × Named t (right (t .columns) n)
