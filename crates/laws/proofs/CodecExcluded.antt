@@ -8,7 +8,7 @@
 --   untouched-padded-excluded       nor `to_padded_bits`
 --   refusing-compact-excluded       a reader that refuses everything, whatever the number and the place, is not `from_compact_bits`
 --   refusing-padded-excluded        nor `from_padded_bits`
---   made-up-compact-excluded        nor is one with a made-up next position: it is moved by the length of the compact bits of the record read
+--   made-up-compact-excluded        nor is one with a made-up next position: the position is moved by the length of the compact bits of the record read
 --   made-up-padded-excluded         of padded reading: by the width of the type
 -- Assumes nothing.
 use Prim.Native.Nat.{ℕ, _+_}
