@@ -220,7 +220,7 @@ uint64_t qv_padded_len(
 
 /* `result` names the type made. Accepted: `width` is its width, and the record is written at bit 0 of `out`. */
 
-/* The unit record. Refuses: 1 to 4, 7, 9. */
+/* The unit record. Refuses: 1 to 4, 7. */
 uint64_t qv_unit(
     QV_TABLE,
     uint64_t result, uint64_t *width, uint8_t *out, size_t out_len);

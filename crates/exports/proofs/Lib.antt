@@ -4,3 +4,4 @@ mod Offsets
 mod Nears
 mod States
 pub mod LayoutStates
+pub mod RungStates

@@ -2,3 +2,4 @@
 pub mod Crossing
 pub mod Fronts
 pub mod Results
+pub mod Refusals

@@ -8,8 +8,10 @@
 --   untouched-padded-excluded       nor `to_padded_bits`
 --   refusing-compact-excluded       a reader that refuses everything, whatever the number and the place, is not `from_compact_bits`
 --   refusing-padded-excluded        nor `from_padded_bits`
---   made-up-compact-excluded        nor is one with a made-up next position: it is moved by the length of the compact bits of the record read
+--   made-up-compact-excluded        nor is one with a made-up next position: the position is moved by the length of the compact bits of the record read
 --   made-up-padded-excluded         of padded reading: by the width of the type
+--   wordReader                      `word_from_bits` for n, as a reader
+--   refusing-word-excluded made-up-word-excluded    the same of it
 -- Assumes nothing.
 use Prim.Native.Nat.{ℕ, _+_}
 use mathlib.Core.Path.{_≡_, refl, sym, ap, _∙_}
@@ -26,6 +28,8 @@ use Rattle.meaning.specs.Codecs.{Decoded, isEarly, decoded, decodeCompact, deco
 use Rattle.meaning.specs.Ladder.{Answer, refused, accepted, Rung, rung, ladder, Record, record-of, Stream, stream-of, typeAt, recordBits, restOf, roomFor}
 use Rattle.meaning.specs.TypeCalls.{groupOf, groupsOf}
 use Rattle.meaning.specs.CodecCalls.{reads, readRungs, compactIn, paddedIn, fromCompactCall, fromPaddedCall, toCompactOut, toPaddedOut}
+use Rattle.meaning.specs.Words.{isWord}
+use Rattle.meaning.specs.WordCalls.{wordReadRungs, wordReadCall}
 use Rattle.meaning.proofs.Ladders.{accepted-refused, ladder-parts, ladder-clear, ladder-value}
 use Rattle.laws.proofs.CodecRoundTrips.{compact-read-write, padded-read-write}
 use Rattle.laws.proofs.CodecExact.{decoded-test}
@@ -67,14 +71,15 @@ bitStream = stream-of (0x80 ∷ []) 8 0
 abbrev zeroByte : List ℕ
 zeroByte = 0 ∷ []
 
--- Both writers write it, both readers read it and consume one bit.
+-- Both writers write it, the readers read it and consume one bit.
 writes-one : (toCompactOut oneBit bitRecord zeroByte ≡ 0x80 ∷ []) × (toPaddedOut oneBit bitRecord zeroByte ≡ 0x80 ∷ [])
 unfolding oneBit groupOf groupsOf low lowBytes factIn least from same bits width size padded tyTo tyAt classOf firstBad entryRight factsRight odd toBits bitsOf value packTo pack written compact ladder recordBits
 writes-one = (refl, refl)
 
 reads-one : (fromCompactCall oneBit bitStream 1 zeroByte ≡ accepted 1) × (fromPaddedCall oneBit bitStream 1 zeroByte ≡ accepted 1)
-unfolding oneBit groupOf groupsOf low lowBytes factIn least from same bits width size padded tyTo tyAt classOf firstBad entryRight factsRight odd toBits bitsOf decodeCompact decodePadded ladder restOf
-reads-one = (refl, refl)
+    × (wordReadCall oneBit bitStream 0 1 zeroByte ≡ accepted 1)
+unfolding oneBit groupOf groupsOf low lowBytes factIn least from same bits width size padded tyTo tyAt classOf firstBad entryRight factsRight odd toBits bitsOf decodeCompact decodePadded ladder restOf isWord
+reads-one = (refl, refl, refl)
 
 untouched : (w call : Writer) → call oneBit bitRecord zeroByte ≡ 0x80 ∷ [] → TouchesNothing w → ¬ WritesAs w call
 untouched w call e still is =
@@ -96,6 +101,13 @@ refusing-compact-excluded read = refusing read fromCompactCall (reads-one .0)
 
 pub refusing-padded-excluded : (read : Reader) → RefusesAll read → ¬ ReadsAs read fromPaddedCall
 refusing-padded-excluded read = refusing read fromPaddedCall (reads-one .1)
+
+-- `word_from_bits` for n, as a reader.
+abbrev pub wordReader : ℕ → Reader
+wordReader n t s node out = wordReadCall t s n node out
+
+pub refusing-word-excluded : (read : ℕ → Reader) → ((n : ℕ) → RefusesAll (read n)) → ¬ ((n : ℕ) → ReadsAs (read n) (wordReader n))
+refusing-word-excluded read never is = refusing (read 0) (wordReader 0) (reads-one .2) (never 0) (is 0)
 
 -- An accepted reading is whole, and its position is moved by what it consumed.
 record Moved (s : Stream) (d : Decoded) (next : ℕ) : Type 0 where
@@ -120,10 +132,20 @@ made-up-compact-excluded read is t s node out next wrong e =
     let c = compact-read-write (typeAt t node) (restOf s) (recordOf d) (consumed d) (m .whole) in
     wrong (m .moved ∙ ap (λ (k : ℕ). s .position + k) (c .consumed-count))
 
+padded-moved : (rs : List Rung) (t : Table) (s : Stream) (node : ℕ) (out : List ℕ) (next : ℕ) → reads rs s (paddedIn t s node) out ≡ accepted next
+    → next ≡ s .position + bits (typeAt t node)
+padded-moved rs t s node out next e =
+    let d = paddedIn t s node in
+    let m = accepted-moved rs s d out next e in
+    let c = padded-read-write (typeAt t node) (restOf s) (recordOf d) (consumed d) (m .whole) in
+    m .moved ∙ ap (λ (k : ℕ). s .position + k) (c .consumed-count)
+
 pub made-up-padded-excluded : (read : Reader) → ReadsAs read fromPaddedCall → (t : Table) (s : Stream) (node : ℕ) (out : List ℕ) (next : ℕ)
     → (next ≡ s .position + bits (typeAt t node) → ⊥) → read t s node out ≡ accepted next → ⊥
 made-up-padded-excluded read is t s node out next wrong e =
-    let d = paddedIn t s node in
-    let m = accepted-moved (readRungs t s node) s d out next (sym (is t s node out) ∙ e) in
-    let c = padded-read-write (typeAt t node) (restOf s) (recordOf d) (consumed d) (m .whole) in
-    wrong (m .moved ∙ ap (λ (k : ℕ). s .position + k) (c .consumed-count))
+    wrong (padded-moved (readRungs t s node) t s node out next (sym (is t s node out) ∙ e))
+
+pub made-up-word-excluded : (n : ℕ) (read : Reader) → ReadsAs read (wordReader n) → (t : Table) (s : Stream) (node : ℕ) (out : List ℕ) (next : ℕ)
+    → (next ≡ s .position + bits (typeAt t node) → ⊥) → read t s node out ≡ accepted next → ⊥
+made-up-word-excluded n read is t s node out next wrong e =
+    wrong (padded-moved (wordReadRungs t s n node) t s node out next (sym (is t s node out) ∙ e))

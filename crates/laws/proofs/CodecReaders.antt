@@ -5,7 +5,6 @@
 --   only-compact-reader only-padded-reader      and there is no other
 --   only-compact-writer                 bits that are read back whole to a record with zero padding are its compact bits
 --   refusing-all-excluded               a reader that refuses everything is none: each type has a stream that is accepted
---   made-up-count-excluded              nor is one with a made-up count: it is the length of the compact bits of the record returned
 --   unpadded-same-reading               no padding, below the end of the numbers: both readings are the same
 -- That both writings are then the same is `unpadded-compact` of meaning. Assumes nothing.
 use mathlib.Core.Path.{_≡_, refl, sym, ap, _∙_}
@@ -64,10 +63,6 @@ pub refusing-all-excluded : (read : Ty → List Bool → Decoded) → CompactRea
 refusing-all-excluded read r t =
     let v = zeros (bits t) in
     (compact t v, λ e. r .refuses t (compact t v) e v (length-replicate (bits t) false) ([], append-nil (compact t v)))
-
-pub made-up-count-excluded : (read : Ty → List Bool → Decoded) → CompactReader read
-    → (t : Ty) (s v : List Bool) (n : ℕ) → (n ≡ length (compact t v) → ⊥) → read t s ≡ decoded v n → ⊥
-made-up-count-excluded read r t s v n wrong e = wrong (r .accepts t s v n e .consumed-count)
 
 pub unpadded-same-reading : (t : Ty) (s : List Bool) → padded t ≡ false → width t < top → decodeCompact t s ≡ decodePadded t s
 unpadded-same-reading t s h l = go (decodePadded t s) refl

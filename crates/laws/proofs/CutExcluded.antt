@@ -2,10 +2,11 @@
 --
 --   Pruner IsCut                    a pruner, and one that is the cut on every record
 --   excluded                        one that once answers other bits is not the cut
---   to-unit-excluded                one that returns unit's bits for every target
---   unchanged-excluded              one that returns its input for every target
---   top-only-excluded               one that works at the top sum and only copies below
---   clearing-excluded               one that clears padding when the target equals the type
+--   toUnit to-unit-excluded         one that returns unit's bits for every target
+--   unchanged unchanged-excluded    one that returns its input for every target
+--   topOnly top-only-excluded       one that works at the top sum and only copies below
+--   clearing clearing-excluded      one that clears padding when the target equals the type
+-- That no call by such a pruner is `prune` stands in CutCallExcluded.
 -- Assumes nothing.
 use mathlib.Core.Path.{_≡_, refl, ap, sym, _∙_}
 use mathlib.Core.Bool.{Bool, true, false, cond, false≢true}
@@ -14,6 +15,7 @@ use mathlib.Core.Option.{Option, some, Option·map}
 use lib.ListN.{length}
 use Rattle.meaning.specs.Types.{Ty, unit, sum, prod, same, bits}
 use Rattle.meaning.specs.Records.{plain, sameBits}
+use Rattle.meaning.specs.Words.{two}
 use Rattle.meaning.specs.Cuts.{cutToSum, cut}
 use Rattle.meaning.proofs.Records.{bits-same}
 
@@ -33,15 +35,11 @@ pub excluded : (p : Pruner) (a t : Ty) (v x y : List Bool) → length v ≡ bits
     sameBits x y ≡ false → ¬ IsCut p
 excluded p a t v x y w e f d h = other-bits x y d (sym e ∙ h a t v w ∙ f)
 
--- A bit is a record of unit + unit.
-abbrev pub two : Ty
-two = sum unit unit
-
 -- Unit's bits for every target.
 abbrev pub toUnit : Pruner
 toUnit a t v = some []
 
--- The bit 1 cut to its own type.
+-- The bit 1, a record of unit + unit, cut to its own type.
 pub to-unit-excluded : ¬ IsCut toUnit
 unfolding cut same bits sameBits
 to-unit-excluded = excluded toUnit two two (true ∷ []) [] (true ∷ []) refl refl refl refl

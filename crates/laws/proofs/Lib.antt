@@ -13,6 +13,7 @@ pub mod CutJudged
 pub mod CutRules
 pub mod CutLaws
 pub mod CutExcluded
+pub mod CutCallExcluded
 pub mod Layouts
 pub mod LayoutCalls
 pub mod LayoutFacts

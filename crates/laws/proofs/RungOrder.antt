@@ -3,7 +3,8 @@
 --
 --   InOrder in-order            an answer that is the ladder of these rungs, whose numbers never fall
 --   in-order-refuses            it refuses with a number and a place exactly if its first rung that holds has them
---   in-order-smallest           and that number is the smallest of all its rungs that hold
+--   in-order-smallest           it answers a number exactly if a rung with it holds and none with a smaller one does
+--   in-order-placed             and a place with it exactly if that is the place of the first of the rungs with this number that holds
 --   asked reading               the rungs of a question about types; of a reader
 --   entriesFilled groupsFilled  the rungs of `fill_facts`: 1, and 9
 --   fileRead columnsRead        the rungs of `read_table`: 1, and 9
@@ -17,7 +18,7 @@
 --   buffer-order ctx8-order from-range-order (whatever is made after these rungs: ctx8 of slices, as `exports` has it)
 --   from-compact-order from-padded-order to-compact-order to-padded-order prune-order
 -- Assumes nothing.
-use Prim.Native.Nat.{ℕ, _≤_, _^_}
+use Prim.Native.Nat.{ℕ, _^_}
 use mathlib.Core.Path.{_≡_, refl, sym, _∙_}
 use mathlib.Core.Logic.{_↔_}
 use mathlib.Core.Bool.{Bool, true, not, _&&_}
@@ -39,7 +40,7 @@ use Rattle.meaning.specs.RecordCalls.{handed, addressed}
 use Rattle.meaning.specs.CodecCalls as codecs
 use Rattle.meaning.specs.WordCalls as words
 use Rattle.meaning.specs.CutCalls as cuts
-use Rattle.meaning.proofs.Refusals.{First, Holds, ladder-refuses, ordered, smallest-answered}
+use Rattle.meaning.proofs.Refusals.{First, FirstOf, Holds, NoneBelow, ladder-refuses, ordered, smallest-answered, smallest-placed}
 
 -- The answer x is the ladder of these rungs over some value, and their numbers never fall.
 pub record InOrder {A : Type 0} (x : Answer A) (rungs : List Rung) : Type 0 where
@@ -55,9 +56,19 @@ in-order-refuses {rungs = rungs} o n p =
     let l = ladder-refuses rungs (o .value) n p in
     (λ e. l .0 (sym (o .is-ladder) ∙ e), λ f. o .is-ladder ∙ l .1 f)
 
-pub in-order-smallest : {A : Type 0} {x : Answer A} {rungs : List Rung} → InOrder x rungs → (n p : ℕ) → x ≡ refused n p
-    → Holds rungs n p × ((m q : ℕ) → Holds rungs m q → n ≤ m)
-in-order-smallest {rungs = rungs} o n p e = smallest-answered rungs (o .value) n p (o .never-fall) (sym (o .is-ladder) ∙ e)
+pub in-order-smallest : {A : Type 0} {x : Answer A} {rungs : List Rung} → InOrder x rungs → (n : ℕ)
+    → ((p : ℕ) × (x ≡ refused n p)) ↔ (((p : ℕ) × Holds rungs n p) × NoneBelow rungs n)
+in-order-smallest {rungs = rungs} o n =
+    let l = smallest-answered rungs (o .value) n (o .never-fall) in (
+      λ e. l .0 (e .0, sym (o .is-ladder) ∙ e .1),
+      λ s. let f = l .1 s in (f .0, o .is-ladder ∙ f .1),
+    )
+
+pub in-order-placed : {A : Type 0} {x : Answer A} {rungs : List Rung} → InOrder x rungs → (n p : ℕ)
+    → (x ≡ refused n p) ↔ (FirstOf rungs n p × NoneBelow rungs n)
+in-order-placed {rungs = rungs} o n p =
+    let l = smallest-placed rungs (o .value) n p (o .never-fall) in
+    (λ e. l .0 (sym (o .is-ladder) ∙ e), λ s. o .is-ladder ∙ l .1 s)
 
 -- The rungs of a question about types, with its own last.
 abbrev pub asked : Table → List ℕ → List Rung → List Rung

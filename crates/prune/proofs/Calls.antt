@@ -5,6 +5,7 @@
 --   prune-held prune-named prune-width  an accepted call was handed a record and a target within the limits, and answers the target's width
 --   prune-cut pruned-held       it has cut the record, and what it wrote is a record, ready for the next call
 --   cut-prunes                  a record that can be cut is cut, where there is room
+--   prune-nine-wide             9 exactly if none of the other rungs refuses and the output is shorter than the target's width needs
 --   prune-prune                 demand 3: cut to a and then to b, or straight to b
 --   prune-own                   cut to its own type, a record keeps every bit
 --   prune-unit                  a cut to unit always works, and writes nothing
@@ -14,6 +15,7 @@
 --   prune-own-bits              answer and output depend on the record's own bits alone (`Agree` of `checked/proofs/OwnBits`)
 -- Assumes nothing.
 use mathlib.Core.Path.{_≡_, refl, ap, ap₂, sym, _∙_, subst}
+use mathlib.Core.Logic.{_↔_}
 use mathlib.Core.Bool.{Bool, true}
 use mathlib.Core.List.{List, [], _∷_}
 use mathlib.Core.Option.{Option, some}
@@ -25,7 +27,7 @@ use Rattle.meaning.specs.Tables.{Table}
 use Rattle.meaning.specs.Bits.{room, packTo, pack, written}
 use Rattle.meaning.specs.Records.{compact, plain}
 use Rattle.meaning.specs.Cuts.{cut}
-use Rattle.meaning.specs.Ladder.{Answer, accepted, ladder, Record, record-of, typeAt, typeOf, recordBits, shaped, makes, made}
+use Rattle.meaning.specs.Ladder.{Answer, refused, accepted, ladder, Record, record-of, typeAt, typeOf, recordBits, shaped, makes, made}
 use Rattle.meaning.specs.RecordCalls.{handed}
 use Rattle.meaning.specs.CutCalls.{isCut, cutBits, cutOf, pruneRungs, pruneCall, pruneOut}
 use Rattle.meaning.proofs.Records.{bits-unit}
@@ -36,6 +38,7 @@ use Rattle.checked.proofs.Made.{Accepted, accepts, done, handed-on, made-length
 use Rattle.checked.proofs.Shaped.{shape-right, shape-accepted}
 use Rattle.checked.proofs.Lent.{own-length}
 use Rattle.checked.proofs.OwnBits.{Agree, results-own}
+use Rattle.laws.proofs.RoomExact.{Short, makes-nine-wide}
 use Rattle.laws.proofs.CutRules.{cut-same, cut-unit}
 use Rattle.laws.proofs.CutLaws.{cut-cut, cut-plain, compact-cut}
 use Rattle.prune_sides.proofs.CutSteps.{cut-is}
@@ -90,6 +93,15 @@ module _ (t : Table) (r : Record) (target : ℕ) (out : List ℕ) where
         let w = cut-wide in
         let e = made-length (pruneRungs t r target) (cutBits (cutOf t r target)) out n h in
         record { named = prune-named; ends = omega arith }
+
+  -- The room that counts is that of the target's width.
+  pub prune-nine-wide : (pruneCall t r target out ≡ refused 9 0) ↔ Short (pruneRungs t r target) (bits (typeAt t target)) out
+  prune-nine-wide = makes-nine-wide (pruneRungs t r target) (cutBits (cutOf t r target)) (bits (typeAt t target)) out refl wide
+    where
+      wide : ladder (pruneRungs t r target) (tt {0}) ≡ accepted (tt {0}) → length (cutBits (cutOf t r target)) ≡ bits (typeAt t target)
+      wide e =
+          let s = shape-accepted (handed t (r ∷ []) (target ∷ [])) (isCut (cutOf t r target)) e in
+          cut-length t r target (handed-passed t (r ∷ []) (target ∷ []) (s .0) .0 .0) (s .1)
 
   -- A record that can be cut to x is cut to it.
   pub cut-prunes : (x : List Bool) → Held t r → Named t target → cut (typeAt t target) (typeOf t r) (recordBits t r) ≡ some x

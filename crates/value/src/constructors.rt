@@ -1,7 +1,7 @@
 // Constructors: a record of a named result node, at bit 0 of the output, with zero bits after it in its last byte; later bytes stay. New
 // padding is zero, and a payload keeps its own. Each answers how many bits the record has.
 // Assumes nothing of its input. Refuses with 1 to 5, with 7 where the result is not made of the types given, and with 9 where the output is
-// too short; then no byte has changed.
+// too short (but `unit`, whose result has no bytes); then no byte has changed.
 use answers::Count;
 use answers::Done;
 use value_fitting::optional;
