@@ -45,8 +45,8 @@
  * after its width; later bytes of `out` stay.
  *
  * Stack. With QV_STACK_BYTES of stack free any call may be made. qv_from_compact_bits, qv_to_compact_bits,
- * qv_compact_len and qv_prune go down a type by calling themselves, at most once for each node on the way, and need it
- * for the deepest tables; every other call takes less than 8 KiB. This is measured and tested, not proved.
+ * qv_compact_len and qv_prune walk down a type, and the walk calls itself, at most once for each node on the way: they
+ * need it for the deepest tables; every other call takes less than 8 KiB. This is measured and tested, not proved.
  */
 #ifndef QUELOMAVUNT_H
 #define QUELOMAVUNT_H

@@ -63,8 +63,8 @@ pub use word_types::{buffer_width, word_width};
 
 /// The bytes of stack that are enough for any call, as measured and tested: a thread with so much may make them all.
 ///
-/// The compact codec, [`Table::compact_len`] and [`Table::prune`] go down a type by calling themselves, at most once for
-/// each node on the way, and need it for the deepest tables; every other call takes less than 8 KiB. A thread of the
+/// The compact codec, [`Table::compact_len`] and [`Table::prune`] walk down a type, and the walk calls itself, at most once
+/// for each node on the way: they need it for the deepest tables; every other call takes less than 8 KiB. A thread of the
 /// standard library has four times as much unless it is told otherwise.
 ///
 /// ```

@@ -12,7 +12,7 @@ use support::*;
 const MEASURED: usize = 2 << 20;
 /// What a call takes that does not walk down a type.
 const FLAT: usize = 8 << 10;
-/// The calls that walk down a type, by calling themselves.
+/// The calls that walk down a type.
 const WALKERS: [&str; 4] = ["from_compact_bits", "to_compact_bits", "compact_len", "prune"];
 /// What the memory of a stack holds before it is used.
 const FRESH: u8 = 0xA7;

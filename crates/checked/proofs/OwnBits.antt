@@ -1,4 +1,5 @@
--- Two records with the same own bits, wherever they lie and whatever surrounds them: the first rungs of a call say the same of both.
+-- Two records that agree, of one node, with the same own bits, and both past their bytes or neither: wherever they lie and whatever surrounds
+-- them, the first rungs of a call say the same of both.
 --
 --   past                        a record runs past its bytes: 5
 --   Agree                       two records of one node, both past their bytes or neither, with the same own bits

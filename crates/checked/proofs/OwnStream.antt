@@ -4,7 +4,7 @@
 --   AgreeStream                 two streams, both outside or neither, with the same bits from the position to the length
 --   streams-agree               two streams that fit agree where these bits are the same
 --   accepted-own                an accepted reading depends on the bits that it consumed alone: answer, counted from the position, and output.
---                               The rungs of the streams are `gs` and `gs′`, those of the second pass, and those that follow them are `ms`
+--                               The rungs of the streams are `gs` and `gs′`; `gs′` lets the second pass, and `ms` are those that follow
 --   stream-own                  1 to 5 of a reader are the same of streams that agree
 --   refused-own                 a refusal of the one, 1 to 9, is the refusal of the other, and its output stays as it was
 -- Assumes nothing.

@@ -1,4 +1,4 @@
--- And back: what is within the limits passes the first rungs of a call.
+-- The converse of `Passed`: what is within the limits passes the first rungs of a call.
 --
 --   asked-passes named-passes handed-passes stream-passes     1 and 2; 1 to 4; 1 to 5 of records; 1 to 5 of a stream
 --   held-passes                 1 to 5 of one record

@@ -29,7 +29,7 @@ prod-kind zero a b h = absurd (false≢true h)
 prod-kind (suc zero) a b h = absurd (false≢true h)
 prod-kind (suc (suc k)) a b h = refl
 
--- A side is smaller than the whole.
+-- A side is no larger than the whole.
 sum-size : (a b : Ty) → (size a ≤ size (sum a b)) × (size b ≤ size (sum a b))
 unfolding size
 sum-size a b = let p = size-top a in let q = size-top b in (omega arith, omega arith)

@@ -1,5 +1,5 @@
 -- `ctx8` of slices, which only C hands over: its rungs are in the order of their numbers, and 9 is exact. The other calls stand in `RungOrder` and
--- `RoomExact` of the crate laws.
+-- `RoomExact` of the crate laws; the 9 of lent entries in `Refusals` of exports_answers.
 --
 --   ctx8-handed-order           the answer is the ladder of these rungs, and their numbers never fall
 --   ctx8-handed-nine            9 exactly if none of the other rungs refuses and the output is shorter than the state's bits need

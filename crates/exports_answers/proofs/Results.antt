@@ -1,4 +1,8 @@
--- What a caller reads off a result: number and place come apart again, and a refusal is never 0. Assumes nothing.
+-- What a caller reads off a result.
+--
+--   number-again place-again    number and place come apart again
+--   refused-code                a refusal is never 0
+-- Assumes nothing.
 use Prim.Native.Nat.{ℕ, _/_, _%_, _≤_, _<_}
 use mathlib.Core.Path.{_≡_}
 use native.Mathlib.Omega.{arith}

@@ -1,5 +1,5 @@
 -- Readers and writers that are not the calls of the codecs: document 01, "What the statements have to settle". Those of CodecReaders are
--- decoders; these are whole calls, as their contracts have them.
+-- decoders; these are calls by what their contracts say of them: a writer by its output, a reader by its answer.
 --
 --   Writer Reader                   what a writer leaves in its output; what a reader answers
 --   WritesAs ReadsAs                it is as a call has it, always
@@ -8,10 +8,11 @@
 --   untouched-padded-excluded       nor `to_padded_bits`
 --   refusing-compact-excluded       a reader that refuses everything, whatever the number and the place, is not `from_compact_bits`
 --   refusing-padded-excluded        nor `from_padded_bits`
---   made-up-compact-excluded        nor is one with a made-up next position: the position is moved by the length of the compact bits of the record read
+--   made-up-compact-excluded        nor is one with a made-up next position: the position is moved by the length of the compact bits of
+--                                   what the definition reads (of the record in the output: `compact-got` of `codec/proofs/ReadLaws`)
 --   made-up-padded-excluded         of padded reading: by the width of the type
 --   wordReader                      `word_from_bits` for n, as a reader
---   refusing-word-excluded made-up-word-excluded    the same of it
+--   refusing-word-excluded made-up-word-excluded    the same of it: for n = 0; for every n
 -- Assumes nothing.
 use Prim.Native.Nat.{ℕ, _+_}
 use mathlib.Core.Path.{_≡_, refl, sym, ap, _∙_}
@@ -106,8 +107,8 @@ refusing-padded-excluded read = refusing read fromPaddedCall (reads-one .1)
 abbrev pub wordReader : ℕ → Reader
 wordReader n t s node out = wordReadCall t s n node out
 
-pub refusing-word-excluded : (read : ℕ → Reader) → ((n : ℕ) → RefusesAll (read n)) → ¬ ((n : ℕ) → ReadsAs (read n) (wordReader n))
-refusing-word-excluded read never is = refusing (read 0) (wordReader 0) (reads-one .2) (never 0) (is 0)
+pub refusing-word-excluded : (read : Reader) → RefusesAll read → ¬ ReadsAs read (wordReader 0)
+refusing-word-excluded read never is = refusing read (wordReader 0) (reads-one .2) never is
 
 -- An accepted reading is whole, and its position is moved by what it consumed.
 record Moved (s : Stream) (d : Decoded) (next : ℕ) : Type 0 where

@@ -5,7 +5,7 @@
 --   leaves WorksBy                  what a pruner's bits leave in an output; a call that leaves them, whatever it accepts
 --   to-unit-call-excluded           one that for every target works as if it were unit, and so writes nothing, is not `prune`
 --   unit-width-excluded             nor is one that answers unit's width, 0, whatever it accepts
---   unchanged-call-excluded         nor is one that leaves its input unchanged
+--   unchanged-call-excluded         nor is one that writes its input's bits unchanged
 --   top-only-call-excluded          nor one that works at the top sum and only copies below
 --   clearing-call-excluded          nor one that clears padding when the target equals the type
 -- Assumes nothing.

@@ -1,8 +1,9 @@
--- 8 is exact: each call that reads a stream answers 8 exactly if none of its rungs 1 to 7 refuses and no record of the type begins the stream.
+-- 8 is exact: each call that reads a stream answers 8 exactly if none of its rungs 1 to 7 refuses and no record of the type begins the
+-- stream at its position.
 --
 --   reads-eight                 over whatever says of a stream that its reading ends early
---   from-compact-eight          of `from_compact_bits`: no record of the type has compact bits that begin the stream
---   from-padded-eight           of `from_padded_bits`: no record of the type begins the stream
+--   from-compact-eight          of `from_compact_bits`: no record of the type has compact bits that begin the stream at its position
+--   from-padded-eight           of `from_padded_bits`: no record of the type begins the stream at its position
 --   word-read-eight             of `word_from_bits`: the same
 -- Assumes nothing.
 use Prim.Native.Nat.{ℕ, _+_}

@@ -1,4 +1,6 @@
 -- 9 is exact: each call that writes answers 9 exactly if none of its other rungs refuses and the output is shorter than the whole result needs.
+-- Of a maker that is not said to go by a width, these are the bits that it makes; where its other rungs pass they are as many as the result is
+-- wide, by `length-inLeft`, `length-inRight`, `length-pair` of meaning and `length-buffer`, `length-state` of words_laws.
 --
 --   Short makes-nine            of a call that makes bits
 --   makes-nine-wide             the same by a width, which the bits have if the other rungs pass

@@ -6,6 +6,7 @@
 --   in-order-smallest           it answers a number exactly if a rung with it holds and none with a smaller one does
 --   in-order-placed             and a place with it exactly if that is the place of the first of the rungs with this number that holds
 --   asked reading               the rungs of a question about types; of a reader
+--   Own asks-never widths-never     a question's own rungs; no question about types answers 3 or 4
 --   entriesFilled groupsFilled  the rungs of `fill_facts`: 1, and 9
 --   fileRead columnsRead        the rungs of `read_table`: 1, and 9
 -- and the law of each call:
@@ -23,15 +24,15 @@ use mathlib.Core.Path.{_≡_, refl, sym, _∙_}
 use mathlib.Core.Logic.{_↔_}
 use mathlib.Core.Bool.{Bool, true, not, _&&_}
 use mathlib.Core.List.{List, [], _∷_, _++_}
-use lib.ListN.{length}
+use lib.ListN.{length, getD}
 use lib.Dec.{ltb}
-use Rattle.meaning.specs.Types.{isSum, isProd}
+use Rattle.meaning.specs.Types.{bits, isSum, isProd}
 use Rattle.meaning.specs.Tables.{Columns, Table, countRight, columnsReach, groupsReach, firstBadEntry}
 use Rattle.meaning.specs.Files.{Reading, faulty, found, Entry, tableIn}
 use Rattle.meaning.specs.Bits.{toBits, bitsOf}
 use Rattle.meaning.specs.Records.{tag}
 use Rattle.meaning.specs.Codecs.{Decoded, isEarly, recordOf}
-use Rattle.meaning.specs.Words.{HashState, asWord, bufferBits, ctx8Bits}
+use Rattle.meaning.specs.Words.{HashState, wordWidths, asWord, buffer, bufferBits, ctx8Bits}
 use Rattle.meaning.specs.Ladder.{Answer, refused, Rung, rung, ladder, Record, Stream, typeAt, typeOf, recordBits}
 use Rattle.meaning.specs.Ladder.{sound, present, ranged, shaped, roomFor, makes}
 use Rattle.meaning.specs.TypeCalls as types
@@ -40,7 +41,7 @@ use Rattle.meaning.specs.RecordCalls.{handed, addressed}
 use Rattle.meaning.specs.CodecCalls as codecs
 use Rattle.meaning.specs.WordCalls as words
 use Rattle.meaning.specs.CutCalls as cuts
-use Rattle.meaning.proofs.Refusals.{First, FirstOf, Holds, NoneBelow, ladder-refuses, ordered, smallest-answered, smallest-placed}
+use Rattle.meaning.proofs.Refusals.{First, FirstOf, Holds, NoneBelow, ladder-refuses, ordered, smallest-answered, smallest-placed, without-unanswered}
 
 -- The answer x is the ladder of these rungs over some value, and their numbers never fall.
 pub record InOrder {A : Type 0} (x : Answer A) (rungs : List Rung) : Type 0 where
@@ -73,6 +74,28 @@ in-order-placed {rungs = rungs} o n p =
 -- The rungs of a question about types, with its own last.
 abbrev pub asked : Table → List ℕ → List Rung → List Rung
 asked t ns own = sound t ++ (present t ns ++ own)
+
+-- What a question asks after 1 and 2: nothing, a range or a shape.
+pub data Own : List Rung → Type 0 where
+  nothing : Own []
+  range : (b : Bool) → Own (ranged b)
+  shape : (b : Bool) → Own (shaped b)
+
+pub asks-never : {A : Type 0} (t : Table) (ns : List ℕ) {own : List Rung} → Own own → (a : A) (p : ℕ)
+    → (types.asks t ns own a ≡ refused 3 p → ⊥) × (types.asks t ns own a ≡ refused 4 p → ⊥)
+asks-never t ns nothing a p = (without-unanswered (asked t ns []) a 3 p refl, without-unanswered (asked t ns []) a 4 p refl)
+asks-never t ns (range b) a p =
+    (without-unanswered (asked t ns (ranged b)) a 3 p refl, without-unanswered (asked t ns (ranged b)) a 4 p refl)
+asks-never t ns (shape b) a p =
+    (without-unanswered (asked t ns (shaped b)) a 3 p refl, without-unanswered (asked t ns (shaped b)) a 4 p refl)
+
+-- Of the questions that name no node.
+pub widths-never : (n p : ℕ) → ((types.wordWidthCall n ≡ refused 3 p → ⊥) × (types.wordWidthCall n ≡ refused 4 p → ⊥))
+    × ((types.bufferWidthCall n ≡ refused 3 p → ⊥) × (types.bufferWidthCall n ≡ refused 4 p → ⊥))
+widths-never n p = (
+  (without-unanswered (ranged (ltb n 32)) (getD wordWidths n 0) 3 p refl, without-unanswered (ranged (ltb n 32)) (getD wordWidths n 0) 4 p refl),
+  (without-unanswered (ranged (ltb n 13)) (bits (buffer n)) 3 p refl, without-unanswered (ranged (ltb n 13)) (bits (buffer n)) 4 p refl),
+)
 
 -- The rungs of a reader that decodes d.
 abbrev pub reading : List Rung → Decoded → List ℕ → List Rung

@@ -4,7 +4,7 @@
 --   wide-refused large-refused  where one has more bits, it is refused with 3; where none has, but one a greater size, with 4
 --   size-odd                    every size is odd, so that the last within the limit of 4 is 2,097,151 and the first past it 2,097,153
 --   nineteen-fits twenty-wide   word type 19 has the most bits, and the greatest size, that pass; word type 20 has too many bits
---   nineteen-passes twenty-refused      so a call that names word type 19 passes both; one that names word type 20 answers 3
+--   nineteen-passes twenty-refused      so a call that names word type 19 alone passes both; one that names word type 20 answers 3
 --   bit-more unit-more          one bit past the limit of 3; at that limit, and one unit past the limit of 4
 --   empties bits-empties size-empties   2 to the n units, joined by products: no bits, and 2^(n + 1) − 1 nodes
 --   empties-fit empties-large   both sides of the limit of 4, without a bit
@@ -113,17 +113,14 @@ pub empties-large : (bits (prod unit (empties 20)) ≡ 0) × (size (prod unit (e
 empties-large = beside (empties 20) 0 (empties-fit .0) (empties-fit .1)
 
 -- A call that names one of these, whatever rungs follow and whatever it answers.
-module _ (t : Table) (s : Sound t) (n : ℕ) (h : n < t .count) {A : Type 0} (rs : List Rung) (a : A) where
-  -- The one node that it names.
-  one : (m : ℕ) → In m (n ∷ []) → m < t .count
-  one = only (λ (m : ℕ). m < t .count) n h
-
-  pub nineteen-passes : typeAt t n ≡ word 19 → ladder (named t (n ∷ []) ++ rs) a ≡ ladder rs a
-  nineteen-passes e =
+module _ (t : Table) (s : Sound t) {A : Type 0} (rs : List Rung) (a : A) where
+  pub nineteen-passes : (n : ℕ) → n < t .count → typeAt t n ≡ word 19 → ladder (named t (n ∷ []) ++ rs) a ≡ ladder rs a
+  nineteen-passes n h e =
       let b = ap bits e ∙ nineteen-fits .0 in
       let z = ap size e ∙ nineteen-fits .1 in
-      limits-pass t s (n ∷ []) one rs a (only (λ (m : ℕ). bits (typeAt t m) ≤ 524288) n (omega arith))
+      limits-pass t s (n ∷ []) (only (λ (m : ℕ). m < t .count) n h) rs a (only (λ (m : ℕ). bits (typeAt t m) ≤ 524288) n (omega arith))
       (only (λ (m : ℕ). size (typeAt t m) ≤ 2097152) n (omega arith))
 
-  pub twenty-refused : typeAt t n ≡ word 20 → ladder (named t (n ∷ []) ++ rs) a ≡ refused 3 0
-  twenty-refused e = let b = ap bits e in let w = twenty-wide in wide-refused t s (n ∷ []) one rs a n (inl refl) (omega arith)
+  pub twenty-refused : (ns : List ℕ) → ((m : ℕ) → In m ns → m < t .count) → (n : ℕ) → In n ns → typeAt t n ≡ word 20
+      → ladder (named t ns ++ rs) a ≡ refused 3 0
+  twenty-refused ns h n i e = let b = ap bits e in let w = twenty-wide in wide-refused t s ns h rs a n i (omega arith)

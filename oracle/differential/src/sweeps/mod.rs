@@ -1,4 +1,4 @@
-//! The sweeps: each a list of requests over some ground, and the helpers that they share.
+//! The sweeps: each a list of requests over some ground, and the functions that they share.
 
 mod buffers;
 mod constructors;
