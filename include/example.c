@@ -1,5 +1,6 @@
-/* A small program over quelomavunt.h: reads the sample table, reads a record from compact bits, looks at it, cuts it,
- * and is refused. It says what it did and exits with 1 if any answer is not the expected one. */
+/* A small program over quelomavunt.h: reads the sample table, asks what slot a record needs, reads a record from
+ * compact bits, looks at it, cuts it, and is refused. It says what it did and exits with 1 if any answer is not the
+ * expected one. */
 #include "quelomavunt.h"
 
 #include <inttypes.h>
@@ -42,6 +43,12 @@ int main(void) {
     /* A group says a node's facts, the low byte first: node 7 is 4 bits wide. */
     uint8_t *group = t.groups + QV_GROUP_BYTES * 7;
     expect("the low byte of node 7's width", group[0], 4);
+
+    /* The slot that a record of node 5 needs on a link: its compact bits are at least facts[7], at most facts[0]. */
+    uint64_t facts[8] = {0};
+    expect("ask for node 5's facts", qv_facts_of(TABLE(t), 5, facts, 8), 0);
+    expect("the fewest bits of its slot", facts[7], 2);
+    expect("the most bits of its slot", facts[0], 3);
 
     /* Node 5 is 2 + 2 x 2: compact bits 0 1 are the padded bits 0 0 1. */
     const uint8_t compact[1] = {0x40};

@@ -33,6 +33,7 @@
  *     bytes  8 to 15    size: the nodes of the tree; stops at 2^64 - 1
  *     byte  16          padded: 1 if a record has padding, else 0
  *     bytes 17 to 18    class: the smallest node with the same tree
+ *     bytes 19 to 26    least: the least compact length, in bits; stops at 2^64 - 1
  *
  * A wrong byte anywhere in a node's group is a wrong fact of that node. Columns and groups may be longer than the count
  * needs; what lies past it is neither judged nor changed. Each call checks the table it is handed. qv_read_table and
@@ -66,7 +67,7 @@ extern "C" {
 #define QV_MOST_NODES 1024
 
 /* The bytes of one node's facts: groups of QV_GROUP_BYTES * count bytes hold a table of `count` nodes. */
-#define QV_GROUP_BYTES 19
+#define QV_GROUP_BYTES 27
 
 /* The widest record, in bits: 65,536 bytes of output hold any record. */
 #define QV_MOST_BITS 524288
@@ -104,7 +105,9 @@ uint64_t qv_check_table(
 
 /* These never answer 3 or 4. */
 
-/* Accepted: `facts` holds width, size, padded (0 or 1), class, kind, left, right: 7 entries. Refuses: 1, 2, 9. */
+/* Accepted: `facts` holds width, size, padded (0 or 1), class, kind, left, right, least: 8 entries. The least compact
+ * length: no record of the type has fewer compact bits, and one has just so many; a number that stopped at 2^64 - 1
+ * promises the first half alone. Refuses: 1, 2, 9. */
 uint64_t qv_facts_of(
     QV_TABLE,
     uint64_t node, uint64_t *facts, size_t facts_len);
@@ -206,7 +209,8 @@ uint64_t qv_compare(
 
 /* ---- Lengths ---- */
 
-/* Accepted: `bits` is the number of compact bits. Refuses: 1 to 5. */
+/* Accepted: `bits` is the number of compact bits: not below the type's least compact length, nor above its width.
+ * Refuses: 1 to 5. */
 uint64_t qv_compact_len(
     QV_TABLE,
     const uint8_t *bytes, size_t bytes_len, uint64_t offset, uint64_t node, uint64_t *bits);

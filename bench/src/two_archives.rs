@@ -132,7 +132,8 @@ mod new {
     }
 }
 
-/// The archive of the earlier commit.
+/// The archive of the earlier commit, whose sizes this follows: before the least compact length a group ends with the
+/// class.
 mod before {
     archive! {
         "before_qv_",

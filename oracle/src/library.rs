@@ -7,11 +7,11 @@
 //! * `Answer`: the result, and what lies in the lent outputs, columns, groups and position after
 //! * `Library`: whoever answers (the model, or the archive through its C interface)
 
-/// Declares the calls: each with its number in recorded lists, its name, how many accepted values it gives, and
-/// whether it has a table, a stream and an output.
+/// Declares the calls: each with its number in recorded lists, its name, how many accepted values it gives, how many
+/// nodes it names and records it is handed, and whether it has a table, a stream and an output.
 macro_rules! calls {
-    ($($call:ident = $number:literal, $name:literal, values $values:literal,
-       table $table:literal, stream $stream:literal, out $out:literal;)*) => {
+    ($($call:ident = $number:literal, $name:literal, values $values:literal, nodes $nodes:literal,
+       records $records:literal, table $table:literal, stream $stream:literal, out $out:literal;)*) => {
         /// The calls of the port, by the numbers that they have in recorded lists.
         #[derive(Clone, Copy, PartialEq, Eq, Debug, Hash)]
         pub enum Call { $(#[doc = $name] $call = $number,)* }
@@ -28,6 +28,16 @@ macro_rules! calls {
             /// How many accepted values the call gives (a stream's position not counted).
             pub fn value_count(self) -> usize {
                 match self { $(Call::$call => $values,)* }
+            }
+
+            /// How many nodes the call names besides those of its records.
+            pub fn node_count(self) -> usize {
+                match self { $(Call::$call => $nodes,)* }
+            }
+
+            /// How many records the call is handed.
+            pub fn record_count(self) -> usize {
+                match self { $(Call::$call => $records,)* }
             }
 
             /// Whether the call is handed a table with its facts.
@@ -50,56 +60,56 @@ macro_rules! calls {
 
 calls! {
     // calls.list begins: tools/calls writes what stands up to its end.
-    ReadTable = 0, "read_table", values 1, table false, stream false, out false;
-    FillFacts = 1, "fill_facts", values 0, table false, stream false, out false;
-    CheckTable = 2, "check_table", values 0, table true, stream false, out false;
-    FactsOf = 3, "facts_of", values 7, table true, stream false, out false;
-    SameType = 4, "same_type", values 1, table true, stream false, out false;
-    IsUnit = 5, "is_unit", values 1, table true, stream false, out false;
-    IsEmpty = 6, "is_empty", values 1, table true, stream false, out false;
-    TypeAsSum = 7, "type_as_sum", values 2, table true, stream false, out false;
-    TypeAsProduct = 8, "type_as_product", values 2, table true, stream false, out false;
-    PadLeft = 9, "pad_left", values 1, table true, stream false, out false;
-    PadRight = 10, "pad_right", values 1, table true, stream false, out false;
-    AsWord = 11, "as_word", values 1, table true, stream false, out false;
-    WordWidth = 12, "word_width", values 1, table false, stream false, out false;
-    BufferWidth = 13, "buffer_width", values 1, table false, stream false, out false;
-    IsBuffer8 = 14, "is_buffer8", values 1, table true, stream false, out false;
-    IsCtx8 = 15, "is_ctx8", values 1, table true, stream false, out false;
-    AsLeft = 16, "as_left", values 2, table true, stream false, out false;
-    AsRight = 17, "as_right", values 2, table true, stream false, out false;
-    AsProduct = 18, "as_product", values 4, table true, stream false, out false;
-    Equal = 19, "equal", values 1, table true, stream false, out false;
-    Compare = 20, "compare", values 1, table true, stream false, out false;
-    CompactLen = 21, "compact_len", values 1, table true, stream false, out false;
-    PaddedLen = 22, "padded_len", values 1, table true, stream false, out false;
-    Unit = 23, "unit", values 1, table true, stream false, out true;
-    Left = 24, "left", values 1, table true, stream false, out true;
-    Right = 25, "right", values 1, table true, stream false, out true;
-    Product = 26, "product", values 1, table true, stream false, out true;
-    None = 27, "none", values 1, table true, stream false, out true;
-    Some = 28, "some", values 1, table true, stream false, out true;
-    Zero = 29, "zero", values 1, table true, stream false, out true;
-    U1 = 30, "u1", values 1, table true, stream false, out true;
-    U2 = 31, "u2", values 1, table true, stream false, out true;
-    U4 = 32, "u4", values 1, table true, stream false, out true;
-    U8 = 33, "u8", values 1, table true, stream false, out true;
-    U16 = 34, "u16", values 1, table true, stream false, out true;
-    U32 = 35, "u32", values 1, table true, stream false, out true;
-    U64 = 36, "u64", values 1, table true, stream false, out true;
-    U128 = 37, "u128", values 1, table true, stream false, out true;
-    U256 = 38, "u256", values 1, table true, stream false, out true;
-    U512 = 39, "u512", values 1, table true, stream false, out true;
-    FromByteArray = 40, "from_byte_array", values 1, table true, stream false, out true;
-    WordProduct = 41, "word_product", values 1, table true, stream false, out true;
-    WordFromBits = 42, "word_from_bits", values 0, table true, stream true, out true;
-    Buffer8TwoNPlusOne = 43, "buffer8_two_n_plus_one", values 1, table true, stream false, out true;
-    Ctx8 = 44, "ctx8", values 1, table true, stream false, out true;
-    FromCompactBits = 45, "from_compact_bits", values 0, table true, stream true, out true;
-    FromPaddedBits = 46, "from_padded_bits", values 0, table true, stream true, out true;
-    ToCompactBits = 47, "to_compact_bits", values 1, table true, stream false, out true;
-    ToPaddedBits = 48, "to_padded_bits", values 1, table true, stream false, out true;
-    Prune = 49, "prune", values 1, table true, stream false, out true;
+    ReadTable = 0, "read_table", values 1, nodes 0, records 0, table false, stream false, out false;
+    FillFacts = 1, "fill_facts", values 0, nodes 0, records 0, table false, stream false, out false;
+    CheckTable = 2, "check_table", values 0, nodes 0, records 0, table true, stream false, out false;
+    FactsOf = 3, "facts_of", values 8, nodes 1, records 0, table true, stream false, out false;
+    SameType = 4, "same_type", values 1, nodes 2, records 0, table true, stream false, out false;
+    IsUnit = 5, "is_unit", values 1, nodes 1, records 0, table true, stream false, out false;
+    IsEmpty = 6, "is_empty", values 1, nodes 1, records 0, table true, stream false, out false;
+    TypeAsSum = 7, "type_as_sum", values 2, nodes 1, records 0, table true, stream false, out false;
+    TypeAsProduct = 8, "type_as_product", values 2, nodes 1, records 0, table true, stream false, out false;
+    PadLeft = 9, "pad_left", values 1, nodes 2, records 0, table true, stream false, out false;
+    PadRight = 10, "pad_right", values 1, nodes 2, records 0, table true, stream false, out false;
+    AsWord = 11, "as_word", values 1, nodes 1, records 0, table true, stream false, out false;
+    WordWidth = 12, "word_width", values 1, nodes 0, records 0, table false, stream false, out false;
+    BufferWidth = 13, "buffer_width", values 1, nodes 0, records 0, table false, stream false, out false;
+    IsBuffer8 = 14, "is_buffer8", values 1, nodes 1, records 0, table true, stream false, out false;
+    IsCtx8 = 15, "is_ctx8", values 1, nodes 1, records 0, table true, stream false, out false;
+    AsLeft = 16, "as_left", values 2, nodes 0, records 1, table true, stream false, out false;
+    AsRight = 17, "as_right", values 2, nodes 0, records 1, table true, stream false, out false;
+    AsProduct = 18, "as_product", values 4, nodes 0, records 1, table true, stream false, out false;
+    Equal = 19, "equal", values 1, nodes 0, records 2, table true, stream false, out false;
+    Compare = 20, "compare", values 1, nodes 0, records 2, table true, stream false, out false;
+    CompactLen = 21, "compact_len", values 1, nodes 0, records 1, table true, stream false, out false;
+    PaddedLen = 22, "padded_len", values 1, nodes 0, records 1, table true, stream false, out false;
+    Unit = 23, "unit", values 1, nodes 1, records 0, table true, stream false, out true;
+    Left = 24, "left", values 1, nodes 1, records 1, table true, stream false, out true;
+    Right = 25, "right", values 1, nodes 1, records 1, table true, stream false, out true;
+    Product = 26, "product", values 1, nodes 1, records 2, table true, stream false, out true;
+    None = 27, "none", values 1, nodes 1, records 0, table true, stream false, out true;
+    Some = 28, "some", values 1, nodes 1, records 1, table true, stream false, out true;
+    Zero = 29, "zero", values 1, nodes 1, records 0, table true, stream false, out true;
+    U1 = 30, "u1", values 1, nodes 1, records 0, table true, stream false, out true;
+    U2 = 31, "u2", values 1, nodes 1, records 0, table true, stream false, out true;
+    U4 = 32, "u4", values 1, nodes 1, records 0, table true, stream false, out true;
+    U8 = 33, "u8", values 1, nodes 1, records 0, table true, stream false, out true;
+    U16 = 34, "u16", values 1, nodes 1, records 0, table true, stream false, out true;
+    U32 = 35, "u32", values 1, nodes 1, records 0, table true, stream false, out true;
+    U64 = 36, "u64", values 1, nodes 1, records 0, table true, stream false, out true;
+    U128 = 37, "u128", values 1, nodes 1, records 0, table true, stream false, out true;
+    U256 = 38, "u256", values 1, nodes 1, records 0, table true, stream false, out true;
+    U512 = 39, "u512", values 1, nodes 1, records 0, table true, stream false, out true;
+    FromByteArray = 40, "from_byte_array", values 1, nodes 1, records 0, table true, stream false, out true;
+    WordProduct = 41, "word_product", values 1, nodes 1, records 2, table true, stream false, out true;
+    WordFromBits = 42, "word_from_bits", values 0, nodes 1, records 0, table true, stream true, out true;
+    Buffer8TwoNPlusOne = 43, "buffer8_two_n_plus_one", values 1, nodes 1, records 0, table true, stream false, out true;
+    Ctx8 = 44, "ctx8", values 1, nodes 1, records 0, table true, stream false, out true;
+    FromCompactBits = 45, "from_compact_bits", values 0, nodes 1, records 0, table true, stream true, out true;
+    FromPaddedBits = 46, "from_padded_bits", values 0, nodes 1, records 0, table true, stream true, out true;
+    ToCompactBits = 47, "to_compact_bits", values 1, nodes 0, records 1, table true, stream false, out true;
+    ToPaddedBits = 48, "to_padded_bits", values 1, nodes 0, records 1, table true, stream false, out true;
+    Prune = 49, "prune", values 1, nodes 1, records 1, table true, stream false, out true;
     // calls.list ends
 }
 
@@ -121,7 +131,7 @@ impl Call {
 }
 
 /// The bytes of one node's facts in the groups.
-pub const GROUP_BYTES: usize = 19;
+pub const GROUP_BYTES: usize = 27;
 
 /// A table with its facts, borrowed.
 #[derive(Clone, Copy, Debug, Default, PartialEq, Eq)]
@@ -140,6 +150,7 @@ pub struct Facts {
     pub size: u64,
     pub padded: u8,
     pub class: u16,
+    pub least: u64,
 }
 
 impl Columns<'_> {
@@ -153,6 +164,7 @@ impl Columns<'_> {
             size: number(&group[8..16]),
             padded: group[16],
             class: number(&group[17..19]) as u16,
+            least: number(&group[19..27]),
         }
     }
 }
@@ -249,8 +261,8 @@ pub struct Request<'a> {
     pub out: &'a [u8],
 }
 
-/// What lies in places for accepted values before a call, unless a request says otherwise.
-pub const VALUES_BEFORE: [u64; 8] = [0xD1D2_D3D4_D5D6_D7D8; 8];
+/// What lies in places for accepted values before a call, unless a request says otherwise: one more than any call fills.
+pub const VALUES_BEFORE: [u64; 9] = [0xD1D2_D3D4_D5D6_D7D8; 9];
 
 impl<'a> Request<'a> {
     /// A request with nothing handed in but the table, and room for the accepted values.
@@ -269,6 +281,11 @@ impl<'a> Request<'a> {
             values: &VALUES_BEFORE[..call.value_count()],
             out: &[],
         }
+    }
+
+    /// The nodes named besides those of records.
+    pub fn nodes(&self) -> impl Iterator<Item = u64> {
+        [self.node, self.other].into_iter().take(self.call.node_count())
     }
 }
 
@@ -296,6 +313,21 @@ impl Answer {
         } else {
             self.columns.copy_from(&Columns::default());
         }
+    }
+
+    /// The records of an accepted request: those handed in; those that a view shows, in the same bytes; the one made,
+    /// which lies in `out` if the call names its type.
+    pub fn records<'a>(&'a self, request: &Request<'a>) -> Vec<Record<'a>> {
+        let call = request.call;
+        let mut records = [request.a, request.b][..call.record_count()].to_vec();
+        if matches!(call, Call::AsLeft | Call::AsRight | Call::AsProduct) {
+            let views = self.values[..call.value_count()].chunks_exact(2);
+            records.extend(views.map(|view| Record { bytes: request.a.bytes, offset: view[0], node: view[1] }));
+        }
+        if call.writes_out() && call.node_count() > 0 {
+            records.push(Record { bytes: &self.out, offset: 0, node: request.node });
+        }
+        records
     }
 
     /// The refusal's number, 0 if accepted.

@@ -94,6 +94,15 @@ pub fn trees_up_to(inner: usize) -> Vec<Rc<Tree>> {
     (0..=inner).flat_map(all_trees).collect()
 }
 
+/// Sums of a word of two bits and an absent or present one of four, in both orders: the narrower side has the greater
+/// least length. In trees of a few inner nodes the two go together.
+pub fn crossed_trees() -> Vec<Rc<Tree>> {
+    let two = Tree::sum(&Tree::unit(), &Tree::unit());
+    let narrow = Tree::product(&two, &two);
+    let short = Tree::sum(&Tree::unit(), &Tree::product(&narrow, &narrow));
+    vec![Tree::sum(&narrow, &short), Tree::sum(&short, &narrow)]
+}
+
 /// Puts nodes into a table.
 #[derive(Clone, Debug, Default)]
 pub struct TableMaker {

@@ -50,6 +50,7 @@ fn m1_m2_facts() {
     assert_ne!(facts(3)[3], facts(8)[3]);
     assert_eq!(facts(5)[..3], [3, 11, 1]);
     assert_eq!(facts(7)[..2], [4, 15]);
+    assert_eq!((0..10).map(|node| facts(node)[7]).collect::<Vec<_>>(), [0, 1, 0, 1, 2, 2, 1, 3, 1, 1]);
 }
 
 #[test]
@@ -125,23 +126,24 @@ fn the_sample_of_the_report() {
     let q = Request { data: &[3, 0, 1, 0, 0, 2, 1, 1], ..Request::new(Call::ReadTable, room.lend()) };
     Model::new().ask(&q, &mut answer);
     let t = &answer.columns;
-    let facts = |width, size, class| Facts { width, size, padded: 0, class };
-    assert_eq!([0, 1, 2].map(|node| t.facts(node)), [facts(0, 1, 0), facts(1, 3, 1), facts(2, 7, 2)]);
+    let facts = |width, size, class, least| Facts { width, size, padded: 0, class, least };
+    assert_eq!([0, 1, 2].map(|node| t.facts(node)), [facts(0, 1, 0, 0), facts(1, 3, 1, 1), facts(2, 7, 2, 2)]);
     assert_eq!(t.kinds[3], room.kinds[3], "entries past the count stay");
     assert_eq!(t.groups[3 * GROUP_BYTES..], room.groups[3 * GROUP_BYTES..], "bytes past the count's groups stay");
 }
 
 #[test]
-fn a_group_is_width_size_padded_class_low_byte_first() {
+fn a_group_is_width_size_padded_class_least_low_byte_first() {
     let mut maker = TableMaker::new();
-    let word = maker.word(16);
+    let (word, smaller) = (maker.word(16), maker.word(9));
     // Enough nodes that a class takes two bytes.
     while maker.count() < 300 {
         maker.push(0, 0, 0);
     }
-    let node = usize::from(maker.push(1, 0, word));
+    let node = usize::from(maker.push(1, smaller, word));
     let group = &maker.finish().groups[GROUP_BYTES * node..];
     let width = [1, 0, 1, 0, 0, 0, 0, 0];
-    let size = [1, 0, 4, 0, 0, 0, 0, 0];
-    assert_eq!(group, [&width[..], &size[..], &[1], &[0x2C, 0x01]].concat());
+    let size = [0xFF, 7, 4, 0, 0, 0, 0, 0];
+    let least = [1, 2, 0, 0, 0, 0, 0, 0];
+    assert_eq!(group, [&width[..], &size[..], &[1], &[0x2C, 0x01], &least].concat());
 }

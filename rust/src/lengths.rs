@@ -3,7 +3,8 @@
 use crate::{Record, Refusal, Table, raw};
 
 impl Table {
-    /// How many compact bits a record has. Refuses: 2 to 5.
+    /// How many compact bits a record has: not below its type's least length ([`crate::Facts::least`]), nor above its
+    /// width. Refuses: 2 to 5.
     ///
     /// ```
     /// use quelomavunt::{samples, Record, Table};

@@ -7,8 +7,8 @@
 
 #![allow(unsafe_code)]
 
-/// The bytes of one node's facts in the groups, numbers low byte first: width 8, size 8, padded 1, class 2.
-pub const GROUP_BYTES: usize = 19;
+/// The bytes of one node's facts in the groups, numbers low byte first: width 8, size 8, padded 1, class 2, least 8.
+pub const GROUP_BYTES: usize = 27;
 
 /// A table with its facts, as every call takes it. Nothing is assumed of it: each call checks it.
 #[derive(Clone, Copy, Debug, Default)]
@@ -141,7 +141,7 @@ calls! {
     fn fill_facts = "qv_fill_facts"(entries, groups);
     /// Checks a table and its facts.
     fn check_table = "qv_check_table"(table);
-    /// Width, size, padded, class, kind, left, right: 7 values.
+    /// Width, size, padded, class, kind, left, right, least: 8 values.
     fn facts_of = "qv_facts_of"(table, number node, values facts);
     /// Whether two nodes are the same tree.
     fn same_type = "qv_same_type"(table, number a, number b, value answer);

@@ -36,6 +36,9 @@ pub struct Facts {
     pub class: usize,
     /// What the type is.
     pub shape: Shape,
+    /// The least compact length, in bits: no record of the type has fewer compact bits, and one has just so many. Stops
+    /// at 2^64 - 1; a number that stopped promises the first half alone.
+    pub least: u64,
 }
 
 impl Table {
@@ -47,19 +50,21 @@ impl Table {
     /// let facts = table.facts_of(5)?;
     /// assert_eq!((facts.width, facts.size, facts.padded, facts.class), (3, 11, true, 5));
     /// assert_eq!(facts.shape, Shape::Sum { left: 1, right: 4 });
+    /// // A record of node 5 has two or three compact bits.
+    /// assert_eq!((facts.least, facts.width), (2, 3));
     /// # Ok::<(), quelomavunt::Refusal>(())
     /// ```
     pub fn facts_of(&self, node: usize) -> Result<Facts, Refusal> {
-        let mut facts = [0; 7];
+        let mut facts = [0; 8];
         Refusal::of(raw::facts_of(&self.columns(), node as u64, &mut facts))?;
-        let [width, size, padded, class, kind, left, right] = facts;
+        let [width, size, padded, class, kind, left, right, least] = facts;
         let (left, right) = (left as usize, right as usize);
         let shape = match kind {
             0 => Shape::Unit,
             1 => Shape::Sum { left, right },
             _ => Shape::Product { left, right },
         };
-        Ok(Facts { width, size, padded: padded != 0, class: class as usize, shape })
+        Ok(Facts { width, size, padded: padded != 0, class: class as usize, shape, least })
     }
 
     /// Whether two nodes are the same tree. Refuses: 2.

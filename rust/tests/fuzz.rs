@@ -118,7 +118,7 @@ fn break_something(random: &mut Random, w: &mut World) {
         13 => w.node = random.number(),
         14 => w.other = random.number(),
         15 => w.out = random.bytes(110),
-        16 => w.values = (0..random.below(9)).map(|_| random.next()).collect(),
+        16 => w.values = (0..random.below(10)).map(|_| random.next()).collect(),
         17 => t.count = random.number(),
         18 => {
             let node = random.below(t.kinds.len() as u64) as usize;

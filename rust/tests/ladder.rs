@@ -57,14 +57,15 @@ fn shorten(table: &mut Zoo, column: usize, length: usize) {
 fn groups_hold_the_facts_low_byte_first() {
     let zoo = Zoo::new();
     for node in 0..zoo.count {
-        let mut facts = [0; 7];
+        let mut facts = [0; 8];
         assert_eq!(raw::facts_of(&zoo.columns(), node, &mut facts), 0);
-        let [width, size, padded, class, ..] = facts;
+        let [width, size, padded, class, .., least] = facts;
         let mut group = Vec::new();
         group.extend(width.to_le_bytes());
         group.extend(size.to_le_bytes());
         group.push(padded as u8);
         group.extend((class as u16).to_le_bytes());
+        group.extend(least.to_le_bytes());
         assert_eq!(zoo.groups[GROUP_BYTES * node as usize..][..GROUP_BYTES], group, "node {node}");
     }
 }
@@ -133,9 +134,10 @@ fn what_lies_past_the_count_is_not_written() {
     for (name, nodes) in [("read_table", 10), ("fill_facts", Zoo::new().kinds.len())] {
         let call = calls().into_iter().find(|call| call.name == name).expect("it is there");
         let mut world = call.good_world();
-        world.table.groups = vec![0x77; GROUP_BYTES * nodes + 25];
+        // More than another group, and no whole number of them.
+        world.table.groups = vec![0x77; GROUP_BYTES * nodes + GROUP_BYTES + 6];
         let after = call.accepts(world, "longer groups").table.groups;
-        assert_eq!(after[GROUP_BYTES * nodes..], [0x77; 25], "{name}: later bytes stay");
+        assert_eq!(after[GROUP_BYTES * nodes..], [0x77; GROUP_BYTES + 6], "{name}: later bytes stay");
     }
 }
 

@@ -30,10 +30,12 @@ fn m1_and_m2_facts() {
     assert_eq!(t.facts_of(6).unwrap().class, 1);
     assert!(!t.same_type(3, 8).unwrap());
     let facts = t.facts_of(5).unwrap();
-    assert_eq!((facts.width, facts.size, facts.padded), (3, 11, true));
+    assert_eq!((facts.width, facts.size, facts.padded, facts.least), (3, 11, true, 2));
     let facts = t.facts_of(7).unwrap();
-    assert_eq!((facts.width, facts.size), (4, 15));
+    assert_eq!((facts.width, facts.size, facts.least), (4, 15, 3));
     assert_eq!(facts.shape, Shape::Product { left: 5, right: 1 });
+    let leasts: Vec<u64> = (0..t.len()).map(|node| t.facts_of(node).unwrap().least).collect();
+    assert_eq!(leasts, [0, 1, 0, 1, 2, 2, 1, 3, 1, 1]);
 }
 
 #[test]

@@ -73,6 +73,7 @@ told f =
       kind = f .kindOf;
       left = f .leftNode;
       right = f .rightNode;
+      least = f .leastOf;
     }
 
 spotted : records.Spot → Spot

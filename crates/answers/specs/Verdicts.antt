@@ -54,6 +54,7 @@ nodeFacts f =
       kindOf = f .kind;
       leftNode = f .left;
       rightNode = f .right;
+      leastOf = f .least;
     }
 
 abbrev pub factsOf : FactsAnswer → Answer tables.NodeFacts

@@ -93,6 +93,7 @@ pub struct Facts {
     pub kind: u8,
     pub left: usize,
     pub right: usize,
+    pub least: u64,
 }
 
 pub enum FactsAnswer {

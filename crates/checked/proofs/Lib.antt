@@ -9,3 +9,4 @@ pub mod Passes
 pub mod Read
 pub mod Shaped
 pub mod SideTypes
+pub mod Told

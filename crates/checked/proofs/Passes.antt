@@ -22,7 +22,7 @@ use Rattle.meaning.specs.RecordCalls.{handed}
 use Rattle.meaning.specs.CodecCalls.{readRungs}
 use Rattle.meaning.specs.Checked.{Sound}
 use Rattle.meaning.proofs.Choices.{In, any-none}
-use Rattle.meaning.proofs.Ladders.{ladder-pass, ladder-fails, present-pass}
+use Rattle.meaning.proofs.Ladders.{ladder-pass, ladder-any, ladder-fails, present-pass}
 use Rattle.meaning.proofs.Limits.{limits-pass}
 use Rattle.meaning.proofs.Tests.{or-none}
 use Rattle.checked.specs.Passed.{All, Present, Named, Held, Streamed}
@@ -65,10 +65,7 @@ module _ (t : Table) (s : Sound t) where
 
   pub handed-accepts : {A : Type 0} (rs : List Record) (ns : List ℕ) (v : A) → All (Held t) rs → All (Named t) ns
       → ladder (handed t rs ns) v ≡ accepted v
-  unfolding ladder
-  handed-accepts rs ns v h a =
-      ap (λ (x : List Rung). ladder x v) (sym (append-nil (handed t rs ns)))
-      ∙ ladder-pass (handed t rs ns) [] (tt {0}) (tt {0}) v (handed-passes rs ns h a)
+  handed-accepts rs ns v h a = ladder-any (handed t rs ns) (tt {0}) (tt {0}) v (handed-passes rs ns h a)
 
 pub held-passes : (t : Table) (r : Record) → Held t r → ladder (handed t (r ∷ []) []) (tt {0}) ≡ accepted (tt {0})
 held-passes t r h = handed-passes t (h .named .sound) (r ∷ []) [] (h, tt) tt

@@ -3,3 +3,4 @@ pub mod Lent
 pub mod ReadLaws
 pub mod WriteLaws
 pub mod TripLaws
+pub mod LeastLaws

@@ -8,7 +8,7 @@ ghost use Rattle.meaning.specs.Tables.{table};
 ghost use Rattle.meaning.specs.TypeCalls.{factsOfCall, sameTypeCall, isUnitCall, isEmptyCall, typeAsSumCall, typeAsProductCall, padLeftCall, padRightCall};
 ghost use Rattle.exports_answers.specs.Codes.{code, stored, storedFlag, roomy, storedAll, factsList, sidesList};
 
-// Accepted: width, size, padded, class, kind, left and right of a node.
+// Accepted: width, size, padded, class, kind, left, right and least compact length of a node.
 #[no_mangle]
 pub extern "C" fn qv_facts_of(
     kinds: &[u8],

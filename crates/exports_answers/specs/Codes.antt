@@ -64,10 +64,10 @@ abbrev pub storedAll : {A : Type 0} → (A → List ℕ) → Answer A → List �
 storedAll values (refused n p) lent = lent
 storedAll values (accepted a) lent = values a ++ drop (length (values a)) lent
 
--- The facts of a node: width, size, padded, class, kind, left, right.
+-- The facts of a node: width, size, padded, class, kind, left, right, least length.
 abbrev pub factsList : NodeFacts → List ℕ
 factsList f =
-    f .widthOf ∷ f .sizeOf ∷ digit (f .paddedOf) ∷ f .classNo ∷ f .kindOf ∷ f .leftNode ∷ f .rightNode ∷ []
+    f .widthOf ∷ f .sizeOf ∷ digit (f .paddedOf) ∷ f .classNo ∷ f .kindOf ∷ f .leftNode ∷ f .rightNode ∷ f .leastOf ∷ []
 
 -- The sides of a node: left, right.
 abbrev pub sidesList : Sides → List ℕ

@@ -129,6 +129,7 @@ pub fn tell_facts(answer: FactsAnswer, lent: &mut [u64]) -> u64
                 f.kind as u64,
                 f.left as u64,
                 f.right as u64,
+                f.least,
             ];
             store(&values, lent)
         }

@@ -24,7 +24,7 @@ filled-none c old = refl
 
 module _ (c : Columns) (n : ℕ) (old new : List ℕ) (done : new ≡ groupsWritten c n old) where
   pub filled-more : (after : List ℕ) (r : Found) → Derived c n r
-      → after ≡ paste new (groupSize * n) (group (r .width) (r .size) (r .padded) (r .class)) groupSize
+      → after ≡ paste new (groupSize * n) (group (r .width) (r .size) (r .padded) (r .class) (r .least)) groupSize
       → after ≡ groupsWritten c (n + 1) old
   unfolding groupOf
   filled-more after r t e =
@@ -32,7 +32,8 @@ module _ (c : Columns) (n : ℕ) (old new : List ℕ) (done : new ≡ groupsWrit
       let s = t .size-is in
       let p = t .padded-is in
       let q = t .class-is in
-      e ∙ rw (done, w, s, p, q) (groups-more c n old)
+      let l = t .least-is in
+      e ∙ rw (done, w, s, p, q, l) (groups-more c n old)
 
   module _ (count : ℕ) (h : Fillable c old count) (l : n ≤ count) where
     pub filled-known : Known c (factsIn new) n

@@ -16,12 +16,13 @@ use native.Mathlib.Omega.{arith}
 use lib.ListN.{length, getD}
 use lib.Dec.{eqb}
 use borrow.Author.Tests.{eqb-true}
-use Rattle.meaning.specs.Types.{Ty, width, size, padded}
+use Rattle.meaning.specs.Types.{Ty, width, size, padded, leastLength}
 use Rattle.meaning.specs.Groups.{groupSize}
 use Rattle.meaning.specs.Tables.{Columns, factsIn, kind, left, right, classOf, digit, entryRight, factsRight}
 use Rattle.meaning.proofs.Tests.{and-left, and-right}
+use Rattle.meaning.proofs.GroupLaws.{right-holds}
 use Rattle.meaning.proofs.Trees.{RightTo, class-le}
-use Rattle.facts_sides.specs.Sides.{widthBy, sizeBy, paddedBy}
+use Rattle.facts_sides.specs.Sides.{widthBy, sizeBy, paddedBy, leastBy}
 use Rattle.facts_classes.specs.Chains.{slot, slotAt, Last, InSlot}
 use Rattle.facts.specs.Known.{FullReach, Ready}
 use Rattle.facts_classes.specs.Seeking.{Classing}
@@ -29,11 +30,10 @@ use Rattle.facts_sides.specs.Derived.{SideDerived, Derived}
 use Rattle.facts_sides.specs.declared.Side.{Side}
 use Rattle.facts_sides.specs.declared.Found.{Found}
 use Rattle.facts_entries.proofs.Entries.{above-unit, sides-earlier, sides-unit}
-use Rattle.facts_sides.proofs.Steps.{width-at, size-at, padded-at}
+use Rattle.facts_sides.proofs.Steps.{width-at, size-at, padded-at, least-at}
 use Rattle.facts_classes.proofs.Classes.{unit-tree, unit-class}
 use Rattle.facts_classes.proofs.Linking.{slot-below}
 use Rattle.facts.proofs.Judging.{entries-to}
-use Rattle.facts_sides.proofs.Agreeing.{facts-class}
 
 -- The sides of a unit are 0, so its key is all zeros.
 unit-slot : (c : Columns) (n : ℕ) → RightTo c n → kind c n ≡ 0 → slotAt c n ≡ 0
@@ -47,8 +47,8 @@ unit-slot c n r e =
     let t : classOf c (right c n) ≡ 0 = ap (classOf c) q ∙ z in
     simp (e, s, t)
 
-pub unit-derived : (c : Columns) (n : ℕ) → RightTo c n → kind c n ≡ 0 → Derived c n (record { width = 0; size = 1; padded = 0; class = 0; slot = 0 })
-unfolding width size padded
+pub unit-derived : (c : Columns) (n : ℕ) → RightTo c n → kind c n ≡ 0 → Derived c n (record { width = 0; size = 1; padded = 0; class = 0; least = 0; slot = 0 })
+unfolding width size padded leastLength
 unit-derived c n r e =
     let u = unit-tree c n r e in
     record {
@@ -56,6 +56,7 @@ unit-derived c n r e =
       size-is = sym (ap size u);
       padded-is = sym (ap (λ (t : Ty). digit (padded t)) u);
       class-is = sym (unit-class c n r e);
+      least-is = sym (ap leastLength u);
       slot-is = sym (unit-slot c n r e);
     }
 
@@ -100,7 +101,7 @@ module _ (c : Columns) (groups heads links : List ℕ) (n : ℕ) (ready : Ready 
               };
           groups-reach = let w = r .groups-reach in omega arith;
           all-links = ready .chained .all-links;
-          classes-right = λ j l. facts-class c (factsIn groups) j (ready .known .facts-right j l);
+          classes-right = λ j l. right-holds c (factsIn groups) j (ready .known .facts-right j l) .class-held;
           goes-on = ready .chained .goes-on;
           starts =
               subst (λ (x : ℕ). Last (InSlot c (slot (kind c n) a b)) n x) (sym s)
@@ -116,23 +117,27 @@ module _ (c : Columns) (groups heads links : List ℕ) (n : ℕ) (ready : Ready 
         → r .size ≡ sizeBy (x .size) (y .size)
         → r .padded ≡ paddedBy (kind c n) (x .padded) (y .padded) (x .width) (y .width)
         → r .class ≡ classOf c n
+        → r .least ≡ leastBy (kind c n) (x .least) (y .least)
         → r .slot ≡ slot (kind c n) (x .class) (y .class)
         → Derived c n r
-    node-derived x y r sx sy w s p q t =
+    node-derived x y r sx sy w s p q m t =
         let j = above-unit (kind c n) ne in
         let xw = sx .width-is in
         let xs = sx .size-is in
         let xp = sx .padded-is in
         let xc = sx .class-is in
+        let xl = sx .least-is in
         let yw = sy .width-is in
         let ys = sy .size-is in
         let yp = sy .padded-is in
         let yc = sy .class-is in
+        let yl = sy .least-is in
         record {
           width-is = w ∙ rw (xw, yw) (sym (width-at c n (j .0) ready-right (j .1)));
           size-is = s ∙ rw (xs, ys) (sym (size-at c n (j .0) ready-right (j .1)));
           padded-is = p ∙ rw (xw, yw, xp, yp) (sym (padded-at c n (j .0) ready-right (j .1)));
           class-is = q;
+          least-is = m ∙ rw (xl, yl) (sym (least-at c n (j .0) ready-right (j .1)));
           slot-is = t ∙ rw (xc, yc);
         }
 

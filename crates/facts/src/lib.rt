@@ -6,6 +6,7 @@ use facts_classes::slot_of;
 use facts_entries::entry_right;
 use facts_sides::Found;
 use facts_sides::agrees;
+use facts_sides::least_by;
 use facts_sides::padded_by;
 use facts_sides::side_at;
 use facts_sides::size_by;
@@ -37,6 +38,7 @@ fn facts_at(
             size: 1,
             padded: 0,
             class: 0,
+            least: 0,
             slot: 0,
         };
     }
@@ -60,6 +62,7 @@ fn facts_at(
             y.class,
             n,
         ),
+        least: least_by(kind, x.least, y.least),
         slot: slot,
     }
 }
@@ -96,7 +99,15 @@ pub fn fill(kinds: &[u8], lefts: &[u16], rights: &[u16], count: usize, groups: &
     let mut n = 0;
     while n < count {
         let f = facts_at(kinds, lefts, rights, groups, &heads, &links, n);
-        groups::put_facts(groups, n, f.width, f.size, f.padded, f.class as u16);
+        groups::put_facts(
+            groups,
+            n,
+            f.width,
+            f.size,
+            f.padded,
+            f.class as u16,
+            f.least,
+        );
         chain(&mut heads, &mut links, f.slot, f.class, n);
         n += 1;
     }

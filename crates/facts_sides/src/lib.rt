@@ -1,20 +1,21 @@
 // The facts of a node by those of its two sides; the facts of a side, and whether a node's facts are those found, by the groups.
 ghost use mathlib.Core.Path.{_≡_};
 ghost use mathlib.Core.Bool.{true};
-ghost use Prim.Native.Nat.{_+_, _*_, _≤_, max};
+ghost use Prim.Native.Nat.{_+_, _*_, _≤_, max, min};
 ghost use lib.ListN.{length};
 ghost use Rattle.meaning.specs.Types as types;
 ghost use Rattle.meaning.specs.Groups.{groupSize};
 ghost use Rattle.meaning.specs.Tables.{Columns, factsIn, factsRight};
-ghost use Rattle.facts_sides.specs.Sides.{widthBy, sizeBy, paddedBy};
+ghost use Rattle.facts_sides.specs.Sides.{widthBy, sizeBy, paddedBy, leastBy};
 ghost use Rattle.facts_sides.specs.Derived.{SideDerived, Derived};
 
-// What is found of a node: its width, size, padded byte and class, and the slot of its key.
+// What is found of a node: its width, size, padded byte, class and least length, and the slot of its key.
 pub struct Found {
     pub width: u64,
     pub size: u64,
     pub padded: u8,
     pub class: usize,
+    pub least: u64,
     pub slot: usize,
 }
 
@@ -24,6 +25,7 @@ pub struct Side {
     pub size: u64,
     pub padded: u8,
     pub class: u16,
+    pub least: u64,
 }
 
 // An addition that stops at the end of the 64-bit numbers.
@@ -41,6 +43,16 @@ fn larger(a: u64, b: u64) -> u64
     ensures { λ r. ⌜ r ≡ max a b ⌝ }
 {
     if a < b {
+        return b;
+    }
+    a
+}
+
+// The smaller of two least lengths.
+fn smaller(a: u64, b: u64) -> u64
+    ensures { λ r. ⌜ r ≡ min a b ⌝ }
+{
+    if b < a {
         return b;
     }
     a
@@ -82,6 +94,16 @@ pub fn padded_by(kind: u8, p: u8, q: u8, a: u64, b: u64) -> u8
     1
 }
 
+// The least compact length of a sum or a product, by those of its sides.
+pub fn least_by(kind: u8, a: u64, b: u64) -> u64
+    ensures { λ r. ⌜ r ≡ leastBy kind a b ⌝ }
+{
+    if kind == 1 {
+        return stop(1, smaller(a, b));
+    }
+    stop(a, b)
+}
+
 // The facts of an earlier node, as its group has them.
 pub fn side_at(groups: &[u8], k: usize) -> Side
     requires { ⌜ groupSize * (k + 1) ≤ length (now groups) ⌝ }
@@ -92,6 +114,7 @@ pub fn side_at(groups: &[u8], k: usize) -> Side
         size: groups::size_at(groups, k),
         padded: groups::padded_at(groups, k),
         class: groups::class_at(groups, k),
+        least: groups::least_at(groups, k),
     }
 }
 
@@ -109,5 +132,8 @@ pub fn agrees(groups: &[u8], n: usize, f: Found) -> bool
     if groups::padded_at(groups, n) != f.padded {
         return false;
     }
-    groups::class_at(groups, n) as usize == f.class
+    if groups::class_at(groups, n) as usize != f.class {
+        return false;
+    }
+    groups::least_at(groups, n) == f.least
 }

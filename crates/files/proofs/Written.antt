@@ -14,7 +14,7 @@ use native.Mathlib.Omega.{arith}
 use lib.Dec.{eqb}
 use lib.ListN.{length, getD, drop, length-map, List·getD-append}
 use borrow.Author.Tests.{eqb-true}
-use Rattle.meaning.specs.Types.{width, size, padded}
+use Rattle.meaning.specs.Types.{width, size, padded, leastLength}
 use Rattle.meaning.specs.Groups.{group, groupSize}
 use Rattle.meaning.specs.Tables.{Columns, kind, left, right, node, tyTo, tyAt, classOf, digit, sidesRight, entryRight}
 use Rattle.meaning.specs.Files.{Entry, columnsOf}
@@ -72,7 +72,7 @@ module _ (es : List Entry) (c : Columns) (right-at : (k : ℕ) → k < length es
   group-written : (k : ℕ) → k < length es → groupOf (entriesWritten es c) k ≡ groupOf (columnsOf es) k
   unfolding groupOf
   group-written k h =
-      λ i. group (width (tree-written k h i)) (size (tree-written k h i)) (digit (padded (tree-written k h i))) (class-written k h i)
+      λ i. group (width (tree-written k h i)) (size (tree-written k h i)) (digit (padded (tree-written k h i))) (class-written k h i) (leastLength (tree-written k h i))
 
   groups-to : (n : ℕ) → n ≤ length es → groupsOf (entriesWritten es c) n ≡ groupsOf (columnsOf es) n
   unfolding groupsOf

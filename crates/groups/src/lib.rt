@@ -1,5 +1,5 @@
-// The facts of a node in its group of bytes: width in 8 bytes, size in 8, padded in 1, class in 2, numbers low byte first. Inner: a group must be
-// there, which every public call checks first.
+// The facts of a node in its group of bytes: width in 8 bytes, size in 8, padded in 1, class in 2, least length in 8, numbers low byte first.
+// Inner: a group must be there, which every public call checks first.
 ghost use mathlib.Core.Path.{_≡_};
 ghost use Prim.Native.Nat.{_+_, _*_, _≤_};
 ghost use lib.ListN.{length, drop, getD};
@@ -8,7 +8,7 @@ ghost use Rattle.meaning.specs.Groups.{low, lowBytes, group, groupSize};
 ghost use Rattle.meaning.specs.Tables.{factsIn};
 
 // How many bytes a group has.
-pub const GROUP_BYTES: usize = 19;
+pub const GROUP_BYTES: usize = 27;
 
 fn wide(x: u8) -> u64
     ensures { λ r. ⌜ r ≡ x ⌝ }
@@ -73,6 +73,14 @@ pub fn class_at(groups: &[u8], n: usize) -> u16
     two(groups[at], groups[at + 1])
 }
 
+// The least compact length of a node.
+pub fn least_at(groups: &[u8], n: usize) -> u64
+    requires { ⌜ groupSize * (n + 1) ≤ length (now groups) ⌝ }
+    ensures { λ r. ⌜ r ≡ getD (factsIn (now (groups .entry)) .leasts) n 0 ⌝ }
+{
+    eight(groups, GROUP_BYTES * n + 19)
+}
+
 // Lays the k low bytes of a number from a byte on, the low byte first.
 fn put_low(out: &mut [u8], at: usize, x: u64, k: usize)
     requires { ⌜ at + k ≤ length (now out) ⌝ }
@@ -88,15 +96,24 @@ fn put_low(out: &mut [u8], at: usize, x: u64, k: usize)
 }
 
 // Lays the facts of a node into its group.
-pub fn put_facts(groups: &mut [u8], n: usize, width: u64, size: u64, padded: u8, class: u16)
+pub fn put_facts(
+    groups: &mut [u8],
+    n: usize,
+    width: u64,
+    size: u64,
+    padded: u8,
+    class: u16,
+    least: u64,
+)
     requires { ⌜ groupSize * (n + 1) ≤ length (now groups) ⌝ }
     ensures { λ _.
         ⌜ now (groups .exit) ≡ paste (now (groups .entry)) (groupSize * n)
-        (group width size padded class) groupSize ⌝ }
+        (group width size padded class least) groupSize ⌝ }
 {
     let at = GROUP_BYTES * n;
     put_low(groups, at, width, 8);
     put_low(groups, at + 8, size, 8);
     put_low(groups, at + 16, padded as u64, 1);
     put_low(groups, at + 17, class as u64, 2);
+    put_low(groups, at + 19, least, 8);
 }

@@ -20,7 +20,7 @@ use mathlib.Core.List.{List, [], _∷_}
 use native.Mathlib.Omega.{arith}
 use lib.ListN.{length, getD}
 use Rattle.meaning.specs.Choice.{least, from}
-use Rattle.meaning.specs.Types.{same, bits, width, size, padded}
+use Rattle.meaning.specs.Types.{same, bits, width, size, padded, leastLength}
 use Rattle.meaning.specs.Groups.{low, lowBytes, factIn}
 use Rattle.meaning.specs.Tables.{Table, table, columns, tyTo, tyAt, classOf, firstBad, entryRight, factsRight}
 use Rattle.meaning.specs.Bits.{odd, toBits, bitsOf, value, packTo, pack, written}
@@ -74,12 +74,12 @@ zeroByte = 0 ∷ []
 
 -- Both writers write it, the readers read it and consume one bit.
 writes-one : (toCompactOut oneBit bitRecord zeroByte ≡ 0x80 ∷ []) × (toPaddedOut oneBit bitRecord zeroByte ≡ 0x80 ∷ [])
-unfolding oneBit groupOf groupsOf low lowBytes factIn least from same bits width size padded tyTo tyAt classOf firstBad entryRight factsRight odd toBits bitsOf value packTo pack written compact ladder recordBits
+unfolding oneBit groupOf groupsOf low lowBytes factIn least from same bits width size padded leastLength tyTo tyAt classOf firstBad entryRight factsRight odd toBits bitsOf value packTo pack written compact ladder recordBits
 writes-one = (refl, refl)
 
 reads-one : (fromCompactCall oneBit bitStream 1 zeroByte ≡ accepted 1) × (fromPaddedCall oneBit bitStream 1 zeroByte ≡ accepted 1)
     × (wordReadCall oneBit bitStream 0 1 zeroByte ≡ accepted 1)
-unfolding oneBit groupOf groupsOf low lowBytes factIn least from same bits width size padded tyTo tyAt classOf firstBad entryRight factsRight odd toBits bitsOf decodeCompact decodePadded ladder restOf isWord
+unfolding oneBit groupOf groupsOf low lowBytes factIn least from same bits width size padded leastLength tyTo tyAt classOf firstBad entryRight factsRight odd toBits bitsOf decodeCompact decodePadded ladder restOf isWord
 reads-one = (refl, refl, refl)
 
 untouched : (w call : Writer) → call oneBit bitRecord zeroByte ≡ 0x80 ∷ [] → TouchesNothing w → ¬ WritesAs w call

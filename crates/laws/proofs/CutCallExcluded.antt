@@ -15,7 +15,7 @@ use mathlib.Core.List.{List, [], _∷_}
 use native.Mathlib.Omega.{arith}
 use lib.ListN.{getD}
 use Rattle.meaning.specs.Choice.{least, from}
-use Rattle.meaning.specs.Types.{same, bits, width, size, padded}
+use Rattle.meaning.specs.Types.{same, bits, width, size, padded, leastLength}
 use Rattle.meaning.specs.Groups.{low, lowBytes, factIn}
 use Rattle.meaning.specs.Tables.{Table, table, columns, tyTo, tyAt, classOf, firstBad, entryRight, factsRight}
 use Rattle.meaning.specs.Bits.{odd, toBits, bitsOf, value, packTo, pack, written}
@@ -73,7 +73,7 @@ call-excluded p r target n x y d other c by is =
 
 -- The bit 1 cut to its own type.
 to-unit-differs : Differs toUnit (record-of (0x80 ∷ []) 0 1) 1 1 0x80 0
-unfolding sums groupOf groupsOf low lowBytes factIn least from same bits width size padded tyTo tyAt classOf firstBad entryRight factsRight odd toBits bitsOf value packTo pack written cut ladder recordBits
+unfolding sums groupOf groupsOf low lowBytes factIn least from same bits width size padded leastLength tyTo tyAt classOf firstBad entryRight factsRight odd toBits bitsOf value packTo pack written cut ladder recordBits
 to-unit-differs = record { accepts = refl; cuts = refl; works = refl }
 
 pub to-unit-call-excluded : (c : Cutter) → WorksBy toUnit c → ¬ CutsAs c
@@ -88,7 +88,7 @@ unit-width-excluded c never is =
 
 -- The left 1 of two + unit becomes a left of unit + two: as wide, and its bit is gone.
 unchanged-differs : Differs unchanged (record-of (0x40 ∷ []) 0 3) 2 2 0 0x40
-unfolding sums groupOf groupsOf low lowBytes factIn least from same bits width size padded tyTo tyAt classOf firstBad entryRight factsRight odd toBits bitsOf value packTo pack written cut ladder recordBits
+unfolding sums groupOf groupsOf low lowBytes factIn least from same bits width size padded leastLength tyTo tyAt classOf firstBad entryRight factsRight odd toBits bitsOf value packTo pack written cut ladder recordBits
 unchanged-differs = record { accepts = refl; cuts = refl; works = refl }
 
 pub unchanged-call-excluded : (c : Cutter) → WorksBy unchanged c → ¬ CutsAs c
@@ -96,7 +96,7 @@ unchanged-call-excluded = call-excluded unchanged (record-of (0x40 ∷ []) 0 3) 
 
 -- The same change one level down, under a left that stays.
 top-only-differs : Differs topOnly (record-of (0x20 ∷ []) 0 5) 4 3 0 0x20
-unfolding sums groupOf groupsOf low lowBytes factIn least from same bits width size padded tyTo tyAt classOf firstBad entryRight factsRight odd toBits bitsOf value packTo pack written cut ladder recordBits
+unfolding sums groupOf groupsOf low lowBytes factIn least from same bits width size padded leastLength tyTo tyAt classOf firstBad entryRight factsRight odd toBits bitsOf value packTo pack written cut ladder recordBits
 top-only-differs = record { accepts = refl; cuts = refl; works = refl }
 
 pub top-only-call-excluded : (c : Cutter) → WorksBy topOnly c → ¬ CutsAs c
@@ -104,7 +104,7 @@ top-only-call-excluded = call-excluded topOnly (record-of (0x20 ∷ []) 0 5) 4 3
 
 -- The left unit of unit + two with the padding 1, cut to its own type.
 clearing-differs : Differs clearing (record-of (0x40 ∷ []) 0 2) 2 2 0x40 0
-unfolding sums groupOf groupsOf low lowBytes factIn least from same bits width size padded tyTo tyAt classOf firstBad entryRight factsRight odd toBits bitsOf value packTo pack written cut ladder recordBits plain
+unfolding sums groupOf groupsOf low lowBytes factIn least from same bits width size padded leastLength tyTo tyAt classOf firstBad entryRight factsRight odd toBits bitsOf value packTo pack written cut ladder recordBits plain
 clearing-differs = record { accepts = refl; cuts = refl; works = refl }
 
 pub clearing-call-excluded : (c : Cutter) → WorksBy clearing c → ¬ CutsAs c

@@ -41,9 +41,10 @@ group-told c g k b h r =
     let z = getD (f .sizes) k 0 in
     let p = getD (f .paddeds) k 0 in
     let j = getD (f .classes) k 0 in
+    let l = getD (f .leasts) k 0 in
     ap (take groupSize) (sym (group-low g k b h))
-    ∙ take-at (group w z p j) (drop (groupSize * (k + 1)) g) groupSize (length-group w z p j)
-    ∙ (λ i. group (s .width-held i) (s .size-held i) (s .padded-held i) (s .class-held i))
+    ∙ take-at (group w z p j l) (drop (groupSize * (k + 1)) g) groupSize (length-group w z p j l)
+    ∙ (λ i. group (s .width-held i) (s .size-held i) (s .padded-held i) (s .class-held i) (s .least-held i))
 
 -- The first node at fault is told, in any layout.
 fault-at : {A : Type 0} (c : Columns) (n : ℕ) (f : Facts) (k : ℕ) (rs : List Rung) (a : A) → countRight n ≡ true → columnsReach c n ≡ true
@@ -98,6 +99,7 @@ past-unjudged n g h e =
             sizes-same = fact 8 8 k l (omega arith) o;
             paddeds-same = fact 16 1 k l (omega arith) o;
             classes-same = fact 17 2 k l (omega arith) o;
+            leasts-same = fact 19 8 k l (omega arith) o;
           };
     }
   where

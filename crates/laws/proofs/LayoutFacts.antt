@@ -1,7 +1,7 @@
 -- K9: columns and groups hold the same facts of every sound table, and any columns of 64-, 8- and 16-bit numbers can be laid as groups and read
 -- back. With `LayoutCalls`, every call then answers the same.
 --
---   held-same                   layouts that hold the same four numbers of a node
+--   held-same                   layouts that hold the same five numbers of a node
 --   sound-facts sound-same      a table that is sound in two layouts has the same facts in both
 --   sound-carries               a layout that holds the same facts as a sound table's is sound
 --   InRange                     what u64, u8 and u16 promise of the facts below a count
@@ -24,7 +24,7 @@ use lib.Dec.{leb}
 use lib.ListN.{length, drop, getD, length-append, length-drop, List·getD-eq-default}
 use lib.Seq.{getD-drop}
 use borrow.Author.Tests.{leb-true, leb-false, le-leb, lt-leb}
-use Rattle.meaning.specs.Types.{width, size, padded}
+use Rattle.meaning.specs.Types.{width, size, padded, leastLength}
 use Rattle.meaning.specs.Groups.{group, low, lowBytes, groupSize, factIn}
 use Rattle.meaning.specs.Tables.{Columns, Facts, factsIn, tyAt, classOf, digit, countRight, columnsReach, factsReach}
 use Rattle.meaning.specs.Checked.{Sound, Bytes}
@@ -32,20 +32,22 @@ use Rattle.meaning.proofs.Tests.{and-right}
 use Rattle.meaning.proofs.Choices.{either}
 use Rattle.meaning.proofs.Ladders.{right-shape, sound-shape, sound-accepted, accepted-sound}
 use Rattle.meaning.proofs.Types.{width-top, size-top}
+use Rattle.meaning.proofs.Leasts.{least-top}
 use Rattle.meaning.proofs.Trees.{class-le}
 use Rattle.meaning.proofs.Groups.{length-fact, fact-at, groups-reach}
 use Rattle.meaning.proofs.GroupLaws.{Holds, right-holds, length-group, laid, length-laid, laid-at, digit-low}
 use Rattle.laws.proofs.Layouts.{SameAt, SameFacts, tableWith}
 use Rattle.laws.proofs.LayoutCalls.{check-table-same}
 
--- Facts that hold the same four numbers of a node.
-pub held-same : (f g : Facts) (n w z p k : ℕ) → Holds f n w z p k → Holds g n w z p k → SameAt f g n
-held-same f g n w z p k a b =
+-- Facts that hold the same five numbers of a node.
+pub held-same : (f g : Facts) (n w z p k l : ℕ) → Holds f n w z p k l → Holds g n w z p k l → SameAt f g n
+held-same f g n w z p k l a b =
     record {
       widths-same = a .width-held ∙ sym (b .width-held);
       sizes-same = a .size-held ∙ sym (b .size-held);
       paddeds-same = a .padded-held ∙ sym (b .padded-held);
       classes-same = a .class-held ∙ sym (b .class-held);
+      leasts-same = a .least-held ∙ sym (b .least-held);
     }
 
 module _ (c : Columns) (n : ℕ) (f : Facts) (s : Sound (tableWith c n f)) where
@@ -53,12 +55,12 @@ module _ (c : Columns) (n : ℕ) (f : Facts) (s : Sound (tableWith c n f)) where
   sound-reach =
       and-right (countRight n && columnsReach c n) (factsReach f n) (right-shape (tableWith c n f) (sound-shape (tableWith c n f) s))
 
-  sound-holds : (k : ℕ) → k < n → Holds f k (width (tyAt c k)) (size (tyAt c k)) (digit (padded (tyAt c k))) (classOf c k)
+  sound-holds : (k : ℕ) → k < n → Holds f k (width (tyAt c k)) (size (tyAt c k)) (digit (padded (tyAt c k))) (classOf c k) (leastLength (tyAt c k))
   sound-holds k h = right-holds c f k (s .told k h)
 
 module _ (c : Columns) (n : ℕ) (f g : Facts) where
   pub sound-facts : Sound (tableWith c n f) → Sound (tableWith c n g) → (k : ℕ) → k < n → SameAt f g k
-  sound-facts s t k h = held-same f g k _ _ _ _ (sound-holds c n f s k h) (sound-holds c n g t k h)
+  sound-facts s t k h = held-same f g k _ _ _ _ _ (sound-holds c n f s k h) (sound-holds c n g t k h)
 
   pub sound-same : Sound (tableWith c n f) → Sound (tableWith c n g) → SameFacts n f g
   sound-same s t = record { reach-same = sound-reach c n f s ∙ sym (sound-reach c n g t); all-same = λ _. sound-facts s t }
@@ -72,6 +74,7 @@ pub record InRange (f : Facts) (n : ℕ) : Type 0 where
   pub sizes-below : (k : ℕ) → k < n → getD (f .sizes) k 0 < 2 ^ 64
   pub paddeds-below : (k : ℕ) → k < n → getD (f .paddeds) k 0 < 2 ^ 8
   pub classes-below : (k : ℕ) → k < n → getD (f .classes) k 0 < 2 ^ 16
+  pub leasts-below : (k : ℕ) → k < n → getD (f .leasts) k 0 < 2 ^ 64
 
 pub sound-in-range : (c : Columns) (n : ℕ) (f : Facts) → Sound (tableWith c n f) → InRange f n
 sound-in-range c n f s =
@@ -80,6 +83,7 @@ sound-in-range c n f s =
       sizes-below = λ k h. let e = sound-holds c n f s k h .size-held in let l = size-top (tyAt c k) in omega arith;
       paddeds-below = λ k h. let e = sound-holds c n f s k h .padded-held in let l = digit-low (padded (tyAt c k)) in omega arith;
       classes-below = λ k h. let e = sound-holds c n f s k h .class-held in let l = class-le c k in let m = s .few-nodes in omega arith;
+      leasts-below = λ k h. let e = sound-holds c n f s k h .least-held in let l = least-top (tyAt c k) in omega arith;
     }
 
 low-below : (k : ℕ) (s : List ℕ) → ((i : ℕ) → i < length s → getD s i 0 < 256) → low k s < 256 ^ k
@@ -114,21 +118,31 @@ groups-in-range g n b =
       sizes-below = λ k _. fact-below 8 8 k g b;
       paddeds-below = λ k _. fact-below 16 1 k g b;
       classes-below = λ k _. fact-below 17 2 k g b;
+      leasts-below = λ k _. fact-below 19 8 k g b;
     }
 
 -- The facts of the first n nodes laid as groups, one group after the other.
 abbrev pub grouped : Facts → ℕ → List ℕ
-grouped f n = laid (λ k. group (getD (f .widths) k 0) (getD (f .sizes) k 0) (getD (f .paddeds) k 0) (getD (f .classes) k 0)) n
+grouped f n = laid (λ k. group (getD (f .widths) k 0) (getD (f .sizes) k 0) (getD (f .paddeds) k 0) (getD (f .classes) k 0) (getD (f .leasts) k 0)) n
 
 -- Columns are too short only for some node.
 short-some : (f : Facts) (n : ℕ) → factsReach f n ≡ false → 0 < n
 short-some f zero e =
     absurd (true≢false
-    (sym (rw (le-leb 0 (length (f .widths)) zero-le, le-leb 0 (length (f .sizes)) zero-le, le-leb 0 (length (f .paddeds)) zero-le, le-leb 0 (length (f .classes)) zero-le)) ∙ e))
+    (sym (rw (
+      le-leb 0 (length (f .widths)) zero-le,
+      le-leb 0 (length (f .sizes)) zero-le,
+      le-leb 0 (length (f .paddeds)) zero-le,
+      le-leb 0 (length (f .classes)) zero-le,
+      le-leb 0 (length (f .leasts)) zero-le,
+    ))
+    ∙ e))
 short-some f (suc n) e = omega arith
 
 pub length-grouped : (f : Facts) (n : ℕ) → length (grouped f n) ≡ groupSize * n
-length-grouped f n = length-laid _ n (λ k. length-group (getD (f .widths) k 0) (getD (f .sizes) k 0) (getD (f .paddeds) k 0) (getD (f .classes) k 0))
+length-grouped f n =
+    length-laid _ n
+    (λ k. length-group (getD (f .widths) k 0) (getD (f .sizes) k 0) (getD (f .paddeds) k 0) (getD (f .classes) k 0) (getD (f .leasts) k 0))
 
 -- Bytes and bytes after them are bytes; past their end a list of numbers reads 0, so no length is asked for.
 append-below : (s t : List ℕ) → ((i : ℕ) → getD s i 0 < 256) → ((i : ℕ) → getD t i 0 < 256) → (i : ℕ) → getD (s ++ t) i 0 < 256
@@ -142,10 +156,11 @@ lowBytes-below zero x i = omega arith
 lowBytes-below (suc k) x zero = omega arith
 lowBytes-below (suc k) x (suc i) = lowBytes-below k (x / 256) i
 
-group-below : (w z p k i : ℕ) → getD (group w z p k) i 0 < 256
-group-below w z p k =
+group-below : (w z p k l i : ℕ) → getD (group w z p k l) i 0 < 256
+group-below w z p k l =
     append-below (lowBytes 8 w) _ (lowBytes-below 8 w)
-    (append-below (lowBytes 8 z) _ (lowBytes-below 8 z) (append-below (lowBytes 1 p) _ (lowBytes-below 1 p) (lowBytes-below 2 k)))
+    (append-below (lowBytes 8 z) _ (lowBytes-below 8 z)
+    (append-below (lowBytes 1 p) _ (lowBytes-below 1 p) (append-below (lowBytes 2 k) _ (lowBytes-below 2 k) (lowBytes-below 8 l))))
 
 laid-below : (g : ℕ → List ℕ) (n : ℕ) → ((k i : ℕ) → getD (g k) i 0 < 256) → (i : ℕ) → getD (laid g n) i 0 < 256
 unfolding laid
@@ -155,7 +170,8 @@ laid-below g (suc n) h i = append-below (laid g n) (g n) (laid-below g n h) (h n
 pub bytes-grouped : (f : Facts) (n : ℕ) → Bytes (grouped f n)
 bytes-grouped f n =
     record {
-      below = λ i _. laid-below _ n (λ k. group-below (getD (f .widths) k 0) (getD (f .sizes) k 0) (getD (f .paddeds) k 0) (getD (f .classes) k 0)) i;
+      below = λ i _. laid-below _ n
+          (λ k. group-below (getD (f .widths) k 0) (getD (f .sizes) k 0) (getD (f .paddeds) k 0) (getD (f .classes) k 0) (getD (f .leasts) k 0)) i;
     }
 
 module _ (f : Facts) (n : ℕ) (r : InRange f n) where
@@ -165,9 +181,11 @@ module _ (f : Facts) (n : ℕ) (r : InRange f n) where
       let d = length-append (grouped f n) after in
       record {
         reach-same = e ∙ sym (groups-reach n (grouped f n ++ after) ∙ le-leb (groupSize * n) (length (grouped f n ++ after)) (omega arith));
-        all-same = λ _ k h. held-same f (factsIn (grouped f n ++ after)) k _ _ _ _ (record { width-held = refl; size-held = refl; padded-held = refl; class-held = refl })
-            (laid-at (λ j. getD (f .widths) j 0) (λ j. getD (f .sizes) j 0) (λ j. getD (f .paddeds) j 0) (λ j. getD (f .classes) j 0) n k after h
-            (r .widths-below k h) (r .sizes-below k h) (r .paddeds-below k h) (r .classes-below k h));
+        all-same = λ _ k h. held-same f (factsIn (grouped f n ++ after)) k _ _ _ _ _
+            (record { width-held = refl; size-held = refl; padded-held = refl; class-held = refl; least-held = refl })
+            (laid-at (λ j. getD (f .widths) j 0) (λ j. getD (f .sizes) j 0) (λ j. getD (f .paddeds) j 0) (λ j. getD (f .classes) j 0)
+            (λ j. getD (f .leasts) j 0) n k after h
+            (r .widths-below k h) (r .sizes-below k h) (r .paddeds-below k h) (r .classes-below k h) (r .leasts-below k h));
       }
 
   pub grouped-same : factsReach f n ≡ true → SameFacts n f (factsIn (grouped f n))

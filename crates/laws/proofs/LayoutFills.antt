@@ -21,7 +21,7 @@ use lib.Dec.{ltb, leb}
 use lib.ListN.{length, drop, getD, length-append, List·getD-append}
 use borrow.Author.Tests.{leb-true, le-leb, not-false}
 use Rattle.meaning.specs.Choice.{from}
-use Rattle.meaning.specs.Types.{width, size, padded}
+use Rattle.meaning.specs.Types.{width, size, padded, leastLength}
 use Rattle.meaning.specs.Groups.{groupSize}
 use Rattle.meaning.specs.Tables.{Columns, Facts, factsIn, tyAt, classOf, digit, countRight, columnsReach, factsReach, groupsReach, firstBadEntry}
 use Rattle.meaning.specs.Files.{Reading, faulty, found, andThen, numberAt, Entry, entryFrom, entriesFrom, ended, tableIn, columnsOf}
@@ -52,16 +52,24 @@ filled-same c n f g few =
     let w : ℕ → ℕ = λ k. width (tyAt c k) in
     let z : ℕ → ℕ = λ k. size (tyAt c k) in
     let p : ℕ → ℕ = λ k. digit (padded (tyAt c k)) in
+    let l : ℕ → ℕ = λ k. leastLength (tyAt c k) in
     let e = length-groupsOf c n in
     record {
-      reach-same = rw (filled-reaches w n (f .widths), filled-reaches z n (f .sizes), filled-reaches p n (f .paddeds), filled-reaches (classOf c) n (f .classes))
+      reach-same = rw (
+        filled-reaches w n (f .widths),
+        filled-reaches z n (f .sizes),
+        filled-reaches p n (f .paddeds),
+        filled-reaches (classOf c) n (f .classes),
+        filled-reaches l n (f .leasts),
+      )
           (sym (groups-reach n (groupsWritten c n g) ∙ le-leb (groupSize * n) (length (groupsWritten c n g)) (simp length-append (omega arith))));
-      all-same = λ _ k h. held-same (factsWritten c n f) (factsIn (groupsWritten c n g)) k _ _ _ _
+      all-same = λ _ k h. held-same (factsWritten c n f) (factsIn (groupsWritten c n g)) k _ _ _ _ _
           (record {
             width-held = filled-at w n k (f .widths) h;
             size-held = filled-at z n k (f .sizes) h;
             padded-held = filled-at p n k (f .paddeds) h;
             class-held = filled-at (classOf c) n k (f .classes) h;
+            least-held = filled-at l n k (f .leasts) h;
           })
           (written-holds c n g k h few);
     }

@@ -3,7 +3,7 @@
 --
 --   SameAt SameFacts            two layouts hold the same facts of a node; of a table, as far as a call looks at them
 --   tableWith                   a table from its entries, its count and its facts
---   columns-table groups-table  the tables of the two layouts, four columns and groups, are such tables
+--   columns-table groups-table  the tables of the two layouts, five columns and groups, are such tables
 --   facts-right-same            the same facts of a node are both right or both wrong
 --   bad-same                    the first node at fault is the same
 --   answers-same                every ladder that begins with rung 1
@@ -26,6 +26,7 @@ pub record SameAt (f g : Facts) (k : ℕ) : Type 0 where
   pub sizes-same : getD (f .sizes) k 0 ≡ getD (g .sizes) k 0
   pub paddeds-same : getD (f .paddeds) k 0 ≡ getD (g .paddeds) k 0
   pub classes-same : getD (f .classes) k 0 ≡ getD (g .classes) k 0
+  pub leasts-same : getD (f .leasts) k 0 ≡ getD (g .leasts) k 0
 
 -- Both reach the count or neither does; where they do, they hold the same facts below it.
 pub record SameFacts (n : ℕ) (f g : Facts) : Type 0 where
@@ -36,8 +37,9 @@ pub record SameFacts (n : ℕ) (f g : Facts) : Type 0 where
 abbrev pub tableWith : Columns → ℕ → Facts → Table
 tableWith c n f = record { columns = c; facts = f; count = n }
 
-pub columns-table : (ks ls rs ws ss ps cs : List ℕ) (n : ℕ) → columnsTable ks ls rs ws ss ps cs n ≡ tableWith (columns ks ls rs) n (facts ws ss ps cs)
-columns-table ks ls rs ws ss ps cs n = refl
+pub columns-table : (ks ls rs ws ss ps cs ms : List ℕ) (n : ℕ)
+    → columnsTable ks ls rs ws ss ps cs ms n ≡ tableWith (columns ks ls rs) n (facts ws ss ps cs ms)
+columns-table ks ls rs ws ss ps cs ms n = refl
 
 pub groups-table : (ks ls rs gs : List ℕ) (n : ℕ) → table ks ls rs gs n ≡ tableWith (columns ks ls rs) n (factsIn gs)
 groups-table ks ls rs gs n = refl
@@ -50,7 +52,7 @@ least-agrees p q (suc n) h =
 
 pub facts-right-same : (c : Columns) (f g : Facts) (k : ℕ) → SameAt f g k → factsRight c f k ≡ factsRight c g k
 unfolding factsRight
-facts-right-same c f g k s = rw (s .widths-same, s .sizes-same, s .paddeds-same, s .classes-same)
+facts-right-same c f g k s = rw (s .widths-same, s .sizes-same, s .paddeds-same, s .classes-same, s .leasts-same)
 
 module _ (c : Columns) (n : ℕ) (f g : Facts) where
   pub bad-same : ((k : ℕ) → k < n → SameAt f g k) → firstBad (tableWith c n f) ≡ firstBad (tableWith c n g)

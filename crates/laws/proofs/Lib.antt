@@ -7,6 +7,7 @@ pub mod RecordPrefixes
 pub mod CodecExact
 pub mod CodecReaders
 pub mod CodecExcluded
+pub mod RecordLeast
 pub mod CutSides
 pub mod CutTrees
 pub mod CutJudged

@@ -14,7 +14,7 @@ use Rattle.meaning.specs.Tables.{Columns, factsIn, factsAt, columnsReach}
 use Rattle.meaning.specs.Files.{Reading, faulty, found, Entry, tableIn, columnsOf}
 use Rattle.meaning.specs.Ladder.{Answer, refused, accepted, rung, ladder}
 use Rattle.meaning.specs.TypeCalls.{groupsWritten, fileRung, entriesIn, entriesWritten, readTableCall, readTableColumnsOut, readTableGroupsOut}
-use Rattle.meaning.proofs.GroupLaws.{written-width, written-size, written-padded, written-class}
+use Rattle.meaning.proofs.GroupLaws.{written-width, written-size, written-padded, written-class, written-least}
 use Rattle.meaning.proofs.Ladders.{accepted-refused, numberOf, placeOf, kept-accepted}
 use Rattle.lines_digits.specs.Report.{nodeLine, lineIn, factsLine, headLine, refusalLine, groupsText, tableText, readingText, fileText}
 use Rattle.lines.proofs.Lines.{lines-agree}
@@ -28,7 +28,7 @@ nodes-text es c gs few =
     ap (λ s. headLine n ++ s)
     (lines-agree (lineIn (entriesWritten es c .kinds) (factsIn (groupsWritten t n gs))) (λ k. factsLine k (factsAt t k)) n
     (λ k h i. nodeLine k (List·getD-append (map (λ e. e .kind) es) (drop n (c .kinds)) 0 k (rw length-map h) i) (written-width t n gs k h few i)
-    (written-size t n gs k h few i) (written-padded t n gs k h few i) (written-class t n gs k h few i)))
+    (written-size t n gs k h few i) (written-padded t n gs k h few i) (written-class t n gs k h few i) (written-least t n gs k h few i)))
 
 -- What `read_table` answers of a reading.
 answer : Reading (List Entry) → Columns → List ℕ → Answer ℕ

@@ -7,11 +7,17 @@ ghost use Prim.Native.Nat.{_+_, _≤_};
 ghost use lib.ListN.{length};
 ghost use Rattle.lines_digits.specs.Report.{headLine, nodeLine, refusalLine, groupsText};
 ghost use Rattle.lines_digits.specs.Buffer.{PutAt, Printed};
-ghost use Rattle.lines.specs.Room.{Reportable};
+ghost use Rattle.lines.specs.Room.{headRoom, lineRoom, Reportable};
+
+// The bytes that hold any first line: `headRoom`.
+pub const HEAD_BYTES: usize = 27;
+
+// The bytes that hold any line of a node: `lineRoom`.
+pub const LINE_BYTES: usize = 117;
 
 // The first line of a report.
 pub fn head_line(out: &mut [u8], at: usize, count: usize) -> usize
-    requires { ⌜ at + 32 ≤ length (now out) ⌝ }
+    requires { ⌜ at + headRoom ≤ length (now out) ⌝ }
     ensures { λ r. ⌜ PutAt (now (out .entry)) at (headLine count) (now (out .exit)) r ⌝ }
 {
     let number = put_word(out, at, b"nodes ");
@@ -28,16 +34,18 @@ pub fn node_line(
     size: u64,
     padded: u8,
     class: usize,
+    least: u64,
 ) -> usize
-    requires { ⌜ at + 96 ≤ length (now out) ⌝ }
-    ensures { λ r. ⌜ PutAt (now (out .entry)) at (nodeLine k kind width size padded class) (now (out .exit)) r ⌝ }
+    requires { ⌜ at + lineRoom ≤ length (now out) ⌝ }
+    ensures { λ r. ⌜ PutAt (now (out .entry)) at (nodeLine k kind width size padded class least) (now (out .exit)) r ⌝ }
 {
     let kind_at = put_number(out, at, k as u64, b' ');
     let width_at = put_kind(out, kind_at, kind);
     let size_at = put_number(out, width_at, width, b' ');
     let padded_at = put_number(out, size_at, size, b' ');
     let class_at = put_number(out, padded_at, padded as u64, b' ');
-    put_number(out, class_at, class as u64, b'\n')
+    let least_at = put_number(out, class_at, class as u64, b' ');
+    put_number(out, least_at, least, b'\n')
 }
 
 // The line of a refusal.
@@ -71,6 +79,7 @@ pub fn report(out: &mut [u8], kinds: &[u8], groups: &[u8], count: usize) -> usiz
             groups::size_at(groups, k),
             groups::padded_at(groups, k),
             groups::class_at(groups, k) as usize,
+            groups::least_at(groups, k),
         );
         k += 1;
     }

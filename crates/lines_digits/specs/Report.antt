@@ -1,4 +1,4 @@
--- The text of a report: document 01, "Samples". Every line ends in one newline.
+-- The text of a report: document 01, "Samples", and document 02, K1. Every line ends in one newline.
 --
 --   ascii                       the bytes of a text
 --   digitOf digits              the digit of a number below ten; a number of at most k digits
@@ -56,10 +56,10 @@ kindWord zero = ascii "unit"
 kindWord (suc zero) = ascii "sum"
 kindWord (suc (suc k)) = ascii "product"
 
--- A node: its number, kind, width, size, whether it is padded, and its class.
-abbrev pub nodeLine : ℕ → ℕ → ℕ → ℕ → ℕ → ℕ → List ℕ
-nodeLine k kind width size padded class =
-    line (decimal k ∷ kindWord kind ∷ decimal width ∷ decimal size ∷ decimal padded ∷ decimal class ∷ [])
+-- A node: its number, kind, width, size, whether it is padded, its class, and its least compact length.
+abbrev pub nodeLine : ℕ → ℕ → ℕ → ℕ → ℕ → ℕ → ℕ → List ℕ
+nodeLine k kind width size padded class least =
+    line (decimal k ∷ kindWord kind ∷ decimal width ∷ decimal size ∷ decimal padded ∷ decimal class ∷ decimal least ∷ [])
 
 -- A refusal: its number and place.
 abbrev pub refusalLine : ℕ → ℕ → List ℕ
@@ -76,7 +76,8 @@ reportText lineOf n = headLine n ++ linesTo lineOf n
 
 -- The line of a node, as the kinds and the facts have it.
 abbrev pub lineIn : List ℕ → Facts → ℕ → List ℕ
-lineIn kinds f k = nodeLine k (getD kinds k 0) (getD (f .widths) k 0) (getD (f .sizes) k 0) (getD (f .paddeds) k 0) (getD (f .classes) k 0)
+lineIn kinds f k =
+    nodeLine k (getD kinds k 0) (getD (f .widths) k 0) (getD (f .sizes) k 0) (getD (f .paddeds) k 0) (getD (f .classes) k 0) (getD (f .leasts) k 0)
 
 -- The report of a table, as its kinds and the groups of its facts have it.
 abbrev pub groupsText : List ℕ → List ℕ → ℕ → List ℕ
@@ -84,7 +85,7 @@ groupsText kinds groups n = reportText (lineIn kinds (factsIn groups)) n
 
 -- The line of a node by what a table says of it.
 abbrev pub factsLine : ℕ → NodeFacts → List ℕ
-factsLine k f = nodeLine k (f .kindOf) (f .widthOf) (f .sizeOf) (digit (f .paddedOf)) (f .classNo)
+factsLine k f = nodeLine k (f .kindOf) (f .widthOf) (f .sizeOf) (digit (f .paddedOf)) (f .classNo) (f .leastOf)
 
 -- The report of a table by the trees of its nodes.
 abbrev pub tableText : Columns → ℕ → List ℕ

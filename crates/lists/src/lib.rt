@@ -13,6 +13,15 @@ ghost use Prim.Native.Nat.{_+_, _≤_};
 ghost use lib.ListN.{length};
 ghost use Rattle.lists.specs.Parts.{Within};
 
+// The most values that an accepted call gives: the facts of a node.
+pub const MOST_VALUES: usize = 8;
+
+// How many bytes a node's group of facts has. Said here and not taken from the crate groups: a replay is to be independent of what it tries.
+pub const GROUP_BYTES: usize = 27;
+
+// How many bytes the groups of 1,024 nodes have.
+pub const MOST_GROUPS_BYTES: usize = 1024 * GROUP_BYTES;
+
 // A number, or a single byte.
 pub struct Number {
     pub value: u64,

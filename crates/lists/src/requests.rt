@@ -1,4 +1,5 @@
 // A case of the list: what its call is handed, and what is expected of it. Every case has all parts, whether its call looks at them or not.
+use crate::MOST_VALUES;
 use crate::Number;
 use crate::Run;
 use crate::byte_at;
@@ -77,13 +78,13 @@ pub fn request_at(list: &[u8], at: usize) -> Request
     }
 }
 
-// Reads as many numbers as the list says, at most seven, to the front of lent values, and answers how many and where the next part starts.
-fn values_at(list: &[u8], at: usize, values: &mut [u64; 7]) -> Number
+// Reads as many numbers as the list says, at most `MOST_VALUES`, to the front of lent values, and answers how many and where the next part starts.
+fn values_at(list: &[u8], at: usize, values: &mut [u64; MOST_VALUES]) -> Number
     ensures { λ r. ⌜ r .next ≤ length (now (list .entry)) + 1 ⌝ }
 {
     let count = number_at(list, at);
     let few = count.value as usize;
-    if few > 7 {
+    if few > MOST_VALUES {
         return no_number(list);
     }
     let mut next = count.next;
@@ -101,7 +102,7 @@ fn values_at(list: &[u8], at: usize, values: &mut [u64; 7]) -> Number
 }
 
 // The answer at a position of the list. The accepted values go to the front of `values`; later entries stay.
-pub fn expected_at(list: &[u8], at: usize, values: &mut [u64; 7]) -> Expected
+pub fn expected_at(list: &[u8], at: usize, values: &mut [u64; MOST_VALUES]) -> Expected
     ensures { λ r. ⌜ Within (length (now (list .entry))) (r .out) ⌝ }
 {
     let code = number_at(list, at);

@@ -1,9 +1,9 @@
 -- Edges that the marked samples do not reach, computed by the definitions: each would show a wrong reading of document 01, or of
--- document 02, which has the groups.
+-- document 02, which has the groups and the least length.
 --
 --   fileEdges tableEdges byteEdges      files; tables; each byte of a group
---   recordEdges wordEdges               records; words, buffers and the hash state
---   fileEdges-hold tableEdges-hold byteEdges-hold recordEdges-hold wordEdges-hold       the definitions say what the paper says
+--   recordEdges wordEdges leastEdges    records; words, buffers and the hash state; least compact lengths
+--   fileEdges-hold tableEdges-hold byteEdges-hold recordEdges-hold wordEdges-hold leastEdges-hold   the definitions say what the paper says
 -- Assumes nothing.
 use mathlib.Core.Path.{_≡_, refl}
 use mathlib.Core.Bool.{true, false}
@@ -11,7 +11,7 @@ use mathlib.Core.List.{List, [], _∷_, _++_, map}
 use Prim.Native.Nat.{ℕ, _+_, _^_, _-_, Ordering·lt, Ordering·eq, Ordering·gt}
 use lib.ListN.{length, drop, replicate, getD, set}
 use Rattle.meaning.specs.Choice.{least, from}
-use Rattle.meaning.specs.Types.{top, stop, same, bits, width, size, padded}
+use Rattle.meaning.specs.Types.{top, stop, unit, sum, same, bits, width, size, padded, leastLength}
 use Rattle.meaning.specs.Tables.{Table, table, columns, facts, tyTo, tyAt, classOf, firstBad, firstBadEntry, entryRight, factsRight}
 use Rattle.meaning.specs.Groups.{low, lowBytes, factIn}
 use Rattle.meaning.specs.Files.{tableIn, sevenBitGroups, entryFrom, entriesFrom}
@@ -56,15 +56,17 @@ fileEdges =
     ∷ []
 
 pub fileEdges-hold : map defined fileEdges ≡ map paper fileEdges
-unfolding fileEdges defined paper tableS tableB spare least from same bits width size padded tyTo tyAt classOf firstBad firstBadEntry entryRight factsRight tableIn sevenBitGroups entryFrom entriesFrom odd toBits bitsOf value packTo pack written compact sameBits orderBits decodeCompact decodePadded word wordWidths isWord asWord exponent buffer bufferBits ctx8 ctx8Bits cut ladder recordBits restOf
+unfolding fileEdges defined paper tableS tableB spare least from same bits width size padded leastLength tyTo tyAt classOf firstBad firstBadEntry entryRight factsRight tableIn sevenBitGroups entryFrom entriesFrom odd toBits bitsOf value packTo pack written compact sameBits orderBits decodeCompact decodePadded word wordWidths isWord asWord exponent buffer bufferBits ctx8 ctx8Bits cut ladder recordBits restOf
 fileEdges-hold = refl
 
--- The group of a unit, byte by byte: width, size, padded, class; and a group with these bytes at its edges (unit + unit: 1 0 3 0 0 1 0).
+-- The group of a unit, byte by byte: width, size, padded, class, least length; and a group with these bytes at its edges (unit + unit:
+-- 1 0 3 0 0 1 0 1 0).
 unitGroup : List ℕ
-unitGroup = 0 ∷ 0 ∷ 0 ∷ 0 ∷ 0 ∷ 0 ∷ 0 ∷ 0 ∷ 1 ∷ 0 ∷ 0 ∷ 0 ∷ 0 ∷ 0 ∷ 0 ∷ 0 ∷ 0 ∷ 0 ∷ 0 ∷ []
+unitGroup = 0 ∷ 0 ∷ 0 ∷ 0 ∷ 0 ∷ 0 ∷ 0 ∷ 0 ∷ 1 ∷ 0 ∷ 0 ∷ 0 ∷ 0 ∷ 0 ∷ 0 ∷ 0 ∷ 0 ∷ 0 ∷ 0 ∷ 0 ∷ 0 ∷ 0 ∷ 0 ∷ 0 ∷ 0 ∷ 0 ∷ 0 ∷ []
 
-groupWith : (wide-low wide-high size-low size-high padded-byte class-low class-high : ℕ) → List ℕ
-groupWith w x s z p c h = w ∷ 0 ∷ 0 ∷ 0 ∷ 0 ∷ 0 ∷ 0 ∷ x ∷ s ∷ 0 ∷ 0 ∷ 0 ∷ 0 ∷ 0 ∷ 0 ∷ z ∷ p ∷ c ∷ h ∷ []
+groupWith : (wide-low wide-high size-low size-high padded-byte class-low class-high least-low least-high : ℕ) → List ℕ
+groupWith w x s z p c h l m =
+    w ∷ 0 ∷ 0 ∷ 0 ∷ 0 ∷ 0 ∷ 0 ∷ x ∷ s ∷ 0 ∷ 0 ∷ 0 ∷ 0 ∷ 0 ∷ 0 ∷ z ∷ p ∷ c ∷ h ∷ l ∷ 0 ∷ 0 ∷ 0 ∷ 0 ∷ 0 ∷ 0 ∷ m ∷ []
 
 -- Unit and unit + unit, with these facts for the second.
 abbrev two : List ℕ → ℕ → Table
@@ -73,74 +75,78 @@ two last n = table (0 ∷ 1 ∷ []) (0 ∷ 0 ∷ []) (0 ∷ 0 ∷ []) (unitGroup
 -- Counts, columns, entries and groups that are wrong, each with its place; bytes past the count's groups, which nobody judges.
 pub tableEdges : List Sample
 tableEdges =
-    sample (done (checkTableCall (two (groupWith 1 0 3 0 0 1 0) 2))) (done (accepted tt))
-    ∷ sample (done (checkTableCall (two (groupWith 1 0 3 0 0 1 0) 1))) (done (accepted tt))
-    ∷ sample (done (checkTableCall (two (groupWith 1 0 3 0 0 1 0) 0))) (done (refused 1 0))
-    ∷ sample (done (checkTableCall (two (groupWith 1 0 3 0 0 1 0) 3))) (done (refused 1 0))
-    ∷ sample (done (checkTableCall (two (groupWith 1 0 3 0 0 1 0) (2 ^ 64 - 1)))) (done (refused 1 0))
-    ∷ sample (done (checkTableCall (table (0 ∷ 3 ∷ []) (0 ∷ 0 ∷ []) (0 ∷ 0 ∷ []) (unitGroup ++ groupWith 1 0 3 0 0 1 0) 2))) (done (refused 1 1))
-    ∷ sample (done (checkTableCall (table (0 ∷ 1 ∷ []) (1 ∷ 0 ∷ []) (0 ∷ 0 ∷ []) (unitGroup ++ groupWith 1 0 3 0 0 1 0) 2))) (done (refused 1 0))
-    ∷ sample (done (checkTableCall (table (0 ∷ 1 ∷ []) (0 ∷ 0 ∷ []) (1 ∷ 0 ∷ []) (unitGroup ++ groupWith 1 0 3 0 0 1 0) 2))) (done (refused 1 0))
-    ∷ sample (done (checkTableCall (table (0 ∷ 1 ∷ []) (0 ∷ 0 ∷ []) (0 ∷ 1 ∷ []) (unitGroup ++ groupWith 1 0 3 0 0 1 0) 2))) (done (refused 1 1))
-    ∷ sample (done (checkTableCall (two (groupWith 2 0 3 0 0 1 0) 2))) (done (refused 1 1))
-    ∷ sample (done (checkTableCall (two (groupWith 1 1 3 0 0 1 0) 2))) (done (refused 1 1))
-    ∷ sample (done (checkTableCall (two (groupWith 1 0 9 0 0 1 0) 2))) (done (refused 1 1))
-    ∷ sample (done (checkTableCall (two (groupWith 1 0 3 1 0 1 0) 2))) (done (refused 1 1))
-    ∷ sample (done (checkTableCall (two (groupWith 1 0 3 0 2 1 0) 2))) (done (refused 1 1))
-    ∷ sample (done (checkTableCall (two (groupWith 1 0 3 0 0 0 0) 2))) (done (refused 1 1))
-    ∷ sample (done (checkTableCall (two (groupWith 1 0 3 0 0 1 1) 2))) (done (refused 1 1))
-    ∷ sample (done (checkTableCall (table (0 ∷ 1 ∷ []) (0 ∷ 0 ∷ []) (0 ∷ 0 ∷ []) (groupWith 0 0 2 0 0 0 0 ++ groupWith 1 0 9 0 0 1 0) 2))) (done (refused 1 0))
+    sample (done (checkTableCall (two (groupWith 1 0 3 0 0 1 0 1 0) 2))) (done (accepted tt))
+    ∷ sample (done (checkTableCall (two (groupWith 1 0 3 0 0 1 0 1 0) 1))) (done (accepted tt))
+    ∷ sample (done (checkTableCall (two (groupWith 1 0 3 0 0 1 0 1 0) 0))) (done (refused 1 0))
+    ∷ sample (done (checkTableCall (two (groupWith 1 0 3 0 0 1 0 1 0) 3))) (done (refused 1 0))
+    ∷ sample (done (checkTableCall (two (groupWith 1 0 3 0 0 1 0 1 0) (2 ^ 64 - 1)))) (done (refused 1 0))
+    ∷ sample (done (checkTableCall (table (0 ∷ 3 ∷ []) (0 ∷ 0 ∷ []) (0 ∷ 0 ∷ []) (unitGroup ++ groupWith 1 0 3 0 0 1 0 1 0) 2))) (done (refused 1 1))
+    ∷ sample (done (checkTableCall (table (0 ∷ 1 ∷ []) (1 ∷ 0 ∷ []) (0 ∷ 0 ∷ []) (unitGroup ++ groupWith 1 0 3 0 0 1 0 1 0) 2))) (done (refused 1 0))
+    ∷ sample (done (checkTableCall (table (0 ∷ 1 ∷ []) (0 ∷ 0 ∷ []) (1 ∷ 0 ∷ []) (unitGroup ++ groupWith 1 0 3 0 0 1 0 1 0) 2))) (done (refused 1 0))
+    ∷ sample (done (checkTableCall (table (0 ∷ 1 ∷ []) (0 ∷ 0 ∷ []) (0 ∷ 1 ∷ []) (unitGroup ++ groupWith 1 0 3 0 0 1 0 1 0) 2))) (done (refused 1 1))
+    ∷ sample (done (checkTableCall (two (groupWith 2 0 3 0 0 1 0 1 0) 2))) (done (refused 1 1))
+    ∷ sample (done (checkTableCall (two (groupWith 1 1 3 0 0 1 0 1 0) 2))) (done (refused 1 1))
+    ∷ sample (done (checkTableCall (two (groupWith 1 0 9 0 0 1 0 1 0) 2))) (done (refused 1 1))
+    ∷ sample (done (checkTableCall (two (groupWith 1 0 3 1 0 1 0 1 0) 2))) (done (refused 1 1))
+    ∷ sample (done (checkTableCall (two (groupWith 1 0 3 0 2 1 0 1 0) 2))) (done (refused 1 1))
+    ∷ sample (done (checkTableCall (two (groupWith 1 0 3 0 0 0 0 1 0) 2))) (done (refused 1 1))
+    ∷ sample (done (checkTableCall (two (groupWith 1 0 3 0 0 1 1 1 0) 2))) (done (refused 1 1))
+    ∷ sample (done (checkTableCall (two (groupWith 1 0 3 0 0 1 0 0 0) 2))) (done (refused 1 1))
+    ∷ sample (done (checkTableCall (two (groupWith 1 0 3 0 0 1 0 2 0) 2))) (done (refused 1 1))
+    ∷ sample (done (checkTableCall (two (groupWith 1 0 3 0 0 1 0 1 1) 2))) (done (refused 1 1))
+    ∷ sample (done (checkTableCall (table (0 ∷ 1 ∷ []) (0 ∷ 0 ∷ []) (0 ∷ 0 ∷ []) (groupWith 0 0 2 0 0 0 0 0 0 ++ groupWith 1 0 9 0 0 1 0 1 0) 2))) (done (refused 1 0))
     ∷ sample (done (checkTableCall (two [] 2))) (done (refused 1 0))
-    ∷ sample (done (checkTableCall (two (1 ∷ 0 ∷ 0 ∷ 0 ∷ 0 ∷ 0 ∷ 0 ∷ 0 ∷ 3 ∷ 0 ∷ 0 ∷ 0 ∷ 0 ∷ 0 ∷ 0 ∷ 0 ∷ 0 ∷ 1 ∷ []) 2))) (done (refused 1 0))
+    ∷ sample (done (checkTableCall (two (1 ∷ 0 ∷ 0 ∷ 0 ∷ 0 ∷ 0 ∷ 0 ∷ 0 ∷ 3 ∷ 0 ∷ 0 ∷ 0 ∷ 0 ∷ 0 ∷ 0 ∷ 0 ∷ 0 ∷ 1 ∷ 0 ∷ 1 ∷ 0 ∷ 0 ∷ 0 ∷ 0 ∷ 0 ∷ 0 ∷ []) 2))) (done (refused 1 0))
     ∷ sample (done (checkTableCall (two (9 ∷ 9 ∷ []) 1))) (done (accepted tt))
-    ∷ sample (done (checkTableCall (two (groupWith 1 0 3 0 0 1 0 ++ (9 ∷ [])) 2))) (done (accepted tt))
-    ∷ sample (done (checkTableCall (columnsTable (0 ∷ 1 ∷ []) (0 ∷ 0 ∷ []) (0 ∷ 0 ∷ []) (0 ∷ 1 ∷ []) (1 ∷ 3 ∷ []) (0 ∷ 0 ∷ []) (0 ∷ 1 ∷ []) 2))) (done (accepted tt))
-    ∷ sample (done (checkTableCall (columnsTable (0 ∷ 1 ∷ []) (0 ∷ 0 ∷ []) (0 ∷ 0 ∷ []) (0 ∷ []) (1 ∷ 3 ∷ []) (0 ∷ 0 ∷ []) (0 ∷ 1 ∷ []) 2))) (done (refused 1 0))
-    ∷ sample (done (fillColumns (columns (0 ∷ []) (0 ∷ []) (0 ∷ [])) 1 (facts [] [] [] []))) (done (refused 9 0))
+    ∷ sample (done (checkTableCall (two (groupWith 1 0 3 0 0 1 0 1 0 ++ (9 ∷ [])) 2))) (done (accepted tt))
+    ∷ sample (done (checkTableCall (columnsTable (0 ∷ 1 ∷ []) (0 ∷ 0 ∷ []) (0 ∷ 0 ∷ []) (0 ∷ 1 ∷ []) (1 ∷ 3 ∷ []) (0 ∷ 0 ∷ []) (0 ∷ 1 ∷ []) (0 ∷ 1 ∷ []) 2))) (done (accepted tt))
+    ∷ sample (done (checkTableCall (columnsTable (0 ∷ 1 ∷ []) (0 ∷ 0 ∷ []) (0 ∷ 0 ∷ []) (0 ∷ []) (1 ∷ 3 ∷ []) (0 ∷ 0 ∷ []) (0 ∷ 1 ∷ []) (0 ∷ 1 ∷ []) 2))) (done (refused 1 0))
+    ∷ sample (done (checkTableCall (columnsTable (0 ∷ 1 ∷ []) (0 ∷ 0 ∷ []) (0 ∷ 0 ∷ []) (0 ∷ 1 ∷ []) (1 ∷ 3 ∷ []) (0 ∷ 0 ∷ []) (0 ∷ 1 ∷ []) (0 ∷ []) 2))) (done (refused 1 0))
+    ∷ sample (done (fillColumns (columns (0 ∷ []) (0 ∷ []) (0 ∷ [])) 1 (facts [] [] [] [] []))) (done (refused 9 0))
     ∷ sample (done (fillFactsCall (columns (0 ∷ []) (0 ∷ []) (0 ∷ [])) 1 [])) (done (refused 9 0))
     ∷ sample (done (fillFactsCall (columns (0 ∷ []) (0 ∷ []) (0 ∷ [])) 1 (drop 1 unitGroup))) (done (refused 9 0))
     ∷ sample (done (fillFactsCall (columns (0 ∷ []) (5 ∷ []) (0 ∷ [])) 1 [])) (done (refused 1 0))
-    ∷ sample (out (fillFactsOut (columns (0 ∷ 1 ∷ []) (0 ∷ 0 ∷ []) (0 ∷ 0 ∷ [])) 2 (replicate 40 7))) (out (unitGroup ++ (groupWith 1 0 3 0 0 1 0 ++ (7 ∷ 7 ∷ []))))
+    ∷ sample (out (fillFactsOut (columns (0 ∷ 1 ∷ []) (0 ∷ 0 ∷ []) (0 ∷ 0 ∷ [])) 2 (replicate 56 7))) (out (unitGroup ++ (groupWith 1 0 3 0 0 1 0 1 0 ++ (7 ∷ 7 ∷ []))))
     ∷ sample (out (fillFactsOut (columns (0 ∷ 1 ∷ []) (0 ∷ 0 ∷ []) (0 ∷ 0 ∷ [])) 2 (7 ∷ 7 ∷ []))) (out (7 ∷ 7 ∷ []))
-    ∷ sample (count (readTableCall (0x01 ∷ 0x03 ∷ []) (columns (9 ∷ []) (9 ∷ []) (9 ∷ [])) (replicate 20 7))) (count (refused 1 1))
-    ∷ sample (out (readTableGroupsOut (0x01 ∷ 0x03 ∷ []) (columns (9 ∷ []) (9 ∷ []) (9 ∷ [])) (replicate 20 7))) (out (replicate 20 7))
-    ∷ sample (count (readTableCall (0x01 ∷ 0x00 ∷ []) (columns (9 ∷ []) (9 ∷ []) (9 ∷ [])) (replicate 18 7))) (count (refused 9 0))
-    ∷ sample (out (readTableGroupsOut (0x01 ∷ 0x00 ∷ []) (columns (9 ∷ []) (9 ∷ []) (9 ∷ [])) (replicate 18 7))) (out (replicate 18 7))
-    ∷ sample (count (readTableCall (0x02 ∷ 0x00 ∷ 0x01 ∷ 0x00 ∷ 0x00 ∷ []) (columns (9 ∷ 9 ∷ []) (9 ∷ 9 ∷ []) (9 ∷ 9 ∷ [])) (replicate 40 7))) (count (accepted 2))
-    ∷ sample (out (readTableGroupsOut (0x02 ∷ 0x00 ∷ 0x01 ∷ 0x00 ∷ 0x00 ∷ []) (columns (9 ∷ 9 ∷ []) (9 ∷ 9 ∷ []) (9 ∷ 9 ∷ [])) (replicate 40 7))) (out (unitGroup ++ (groupWith 1 0 3 0 0 1 0 ++ (7 ∷ 7 ∷ []))))
+    ∷ sample (count (readTableCall (0x01 ∷ 0x03 ∷ []) (columns (9 ∷ []) (9 ∷ []) (9 ∷ [])) (replicate 28 7))) (count (refused 1 1))
+    ∷ sample (out (readTableGroupsOut (0x01 ∷ 0x03 ∷ []) (columns (9 ∷ []) (9 ∷ []) (9 ∷ [])) (replicate 28 7))) (out (replicate 28 7))
+    ∷ sample (count (readTableCall (0x01 ∷ 0x00 ∷ []) (columns (9 ∷ []) (9 ∷ []) (9 ∷ [])) (replicate 26 7))) (count (refused 9 0))
+    ∷ sample (out (readTableGroupsOut (0x01 ∷ 0x00 ∷ []) (columns (9 ∷ []) (9 ∷ []) (9 ∷ [])) (replicate 26 7))) (out (replicate 26 7))
+    ∷ sample (count (readTableCall (0x02 ∷ 0x00 ∷ 0x01 ∷ 0x00 ∷ 0x00 ∷ []) (columns (9 ∷ 9 ∷ []) (9 ∷ 9 ∷ []) (9 ∷ 9 ∷ [])) (replicate 56 7))) (count (accepted 2))
+    ∷ sample (out (readTableGroupsOut (0x02 ∷ 0x00 ∷ 0x01 ∷ 0x00 ∷ 0x00 ∷ []) (columns (9 ∷ 9 ∷ []) (9 ∷ 9 ∷ []) (9 ∷ 9 ∷ [])) (replicate 56 7))) (out (unitGroup ++ (groupWith 1 0 3 0 0 1 0 1 0 ++ (7 ∷ 7 ∷ []))))
     ∷ sample (number (low 8 (1 ∷ 2 ∷ 3 ∷ 4 ∷ 5 ∷ 6 ∷ 7 ∷ 8 ∷ []))) (number 0x0807060504030201)
     ∷ sample (out (lowBytes 8 0x0807060504030201)) (out (1 ∷ 2 ∷ 3 ∷ 4 ∷ 5 ∷ 6 ∷ 7 ∷ 8 ∷ []))
     ∷ []
 
 pub tableEdges-hold : map defined tableEdges ≡ map paper tableEdges
-unfolding tableEdges unitGroup groupWith defined paper low lowBytes factIn groupOf groupsOf least from same width size padded tyTo tyAt classOf firstBad firstBadEntry entryRight factsRight tableIn sevenBitGroups entryFrom entriesFrom ladder
+unfolding tableEdges unitGroup groupWith defined paper low lowBytes factIn groupOf groupsOf least from same width size padded leastLength tyTo tyAt classOf firstBad firstBadEntry entryRight factsRight tableIn sevenBitGroups entryFrom entriesFrom ladder
 tableEdges-hold = refl
 
 -- Unit and unit + unit, with byte i of the second group greater by one: whichever byte it is, it is told, at that node.
 pub byteEdges : List Sample
 byteEdges =
-    map (λ i. sample (done (checkTableCall (two (set (groupWith 1 0 3 0 0 1 0) i (getD (groupWith 1 0 3 0 0 1 0) i 0 + 1)) 2))) (done (refused 1 1))) (from 0 19)
+    map (λ i. sample (done (checkTableCall (two (set (groupWith 1 0 3 0 0 1 0 1 0) i (getD (groupWith 1 0 3 0 0 1 0 1 0) i 0 + 1)) 2))) (done (refused 1 1))) (from 0 27)
 
 pub byteEdges-hold : map defined byteEdges ≡ map paper byteEdges
-unfolding byteEdges unitGroup groupWith defined paper low factIn least from same width size padded tyTo tyAt classOf firstBad entryRight factsRight ladder
+unfolding byteEdges unitGroup groupWith defined paper low factIn least from same width size padded leastLength tyTo tyAt classOf firstBad entryRight factsRight ladder
 byteEdges-hold = refl
 
 -- Tables of a few nodes, whose facts are numbers: each call over them judges those few.
 -- Unit and unit × unit, which is as empty but no unit.
 unfoldable tableE : Table
-tableE = columnsTable (0 ∷ 2 ∷ []) (0 ∷ 0 ∷ []) (0 ∷ 0 ∷ []) (0 ∷ 0 ∷ []) (1 ∷ 3 ∷ []) (0 ∷ 0 ∷ []) (0 ∷ 1 ∷ []) 2
+tableE = columnsTable (0 ∷ 2 ∷ []) (0 ∷ 0 ∷ []) (0 ∷ 0 ∷ []) (0 ∷ 0 ∷ []) (1 ∷ 3 ∷ []) (0 ∷ 0 ∷ []) (0 ∷ 1 ∷ []) (0 ∷ 0 ∷ []) 2
 
 -- Unit, 2, 2 again, unit + 2, 2 + unit and 2 × 2.
 unfoldable tableO : Table
 tableO =
     columnsTable (0 ∷ 1 ∷ 1 ∷ 1 ∷ 1 ∷ 2 ∷ []) (0 ∷ 0 ∷ 0 ∷ 0 ∷ 1 ∷ 1 ∷ []) (0 ∷ 0 ∷ 0 ∷ 1 ∷ 0 ∷ 1 ∷ []) (0 ∷ 1 ∷ 1 ∷ 2 ∷ 2 ∷ 2 ∷ [])
-    (1 ∷ 3 ∷ 3 ∷ 5 ∷ 5 ∷ 7 ∷ []) (0 ∷ 0 ∷ 0 ∷ 1 ∷ 1 ∷ 0 ∷ []) (0 ∷ 1 ∷ 1 ∷ 3 ∷ 4 ∷ 5 ∷ []) 6
+    (1 ∷ 3 ∷ 3 ∷ 5 ∷ 5 ∷ 7 ∷ []) (0 ∷ 0 ∷ 0 ∷ 1 ∷ 1 ∷ 0 ∷ []) (0 ∷ 1 ∷ 1 ∷ 3 ∷ 4 ∷ 5 ∷ []) (0 ∷ 1 ∷ 1 ∷ 1 ∷ 1 ∷ 2 ∷ []) 6
 
 -- Unit, 2, 2 × 2, 2 + (2 × 2), which is padded, and the product of that and 2.
 unfoldable tableP : Table
 tableP =
     columnsTable (0 ∷ 1 ∷ 2 ∷ 1 ∷ 2 ∷ []) (0 ∷ 0 ∷ 1 ∷ 1 ∷ 3 ∷ []) (0 ∷ 0 ∷ 1 ∷ 2 ∷ 1 ∷ []) (0 ∷ 1 ∷ 2 ∷ 3 ∷ 4 ∷ []) (1 ∷ 3 ∷ 7 ∷ 11 ∷ 15 ∷ [])
-    (0 ∷ 0 ∷ 0 ∷ 1 ∷ 1 ∷ []) (0 ∷ 1 ∷ 2 ∷ 3 ∷ 4 ∷ []) 5
+    (0 ∷ 0 ∷ 0 ∷ 1 ∷ 1 ∷ []) (0 ∷ 1 ∷ 2 ∷ 3 ∷ 4 ∷ []) (0 ∷ 1 ∷ 2 ∷ 2 ∷ 3 ∷ []) 5
 
 -- Bounds, views, equality and order, padding, constructors, both codecs and cuts at their edges.
 pub recordEdges : List Sample
@@ -195,7 +201,7 @@ recordEdges =
     ∷ []
 
 pub recordEdges-hold : map defined recordEdges ≡ map paper recordEdges
-unfolding recordEdges defined paper tableS tableE tableO tableP spare least from same bits width size padded tyTo tyAt classOf firstBad firstBadEntry entryRight factsRight tableIn sevenBitGroups entryFrom entriesFrom odd toBits bitsOf value packTo pack written compact sameBits orderBits decodeCompact decodePadded word wordWidths isWord asWord exponent buffer bufferBits ctx8 ctx8Bits cut ladder recordBits restOf
+unfolding recordEdges defined paper tableS tableE tableO tableP spare least from same bits width size padded leastLength tyTo tyAt classOf firstBad firstBadEntry entryRight factsRight tableIn sevenBitGroups entryFrom entriesFrom odd toBits bitsOf value packTo pack written compact sameBits orderBits decodeCompact decodePadded word wordWidths isWord asWord exponent buffer bufferBits ctx8 ctx8Bits cut ladder recordBits restOf
 recordEdges-hold = refl
 
 -- The words of table B alone.
@@ -260,5 +266,19 @@ wordEdges =
     ∷ []
 
 pub wordEdges-hold : map defined wordEdges ≡ map paper wordEdges
-unfolding wordEdges defined paper tableE tableO tableW tableB spare least from same bits width size padded tyTo tyAt classOf firstBad firstBadEntry entryRight factsRight tableIn sevenBitGroups entryFrom entriesFrom odd toBits bitsOf value packTo pack written compact sameBits orderBits decodeCompact decodePadded word wordWidths isWord asWord exponent buffer bufferBits ctx8 ctx8Bits cut ladder recordBits restOf
+unfolding wordEdges defined paper tableE tableO tableW tableB spare least from same bits width size padded leastLength tyTo tyAt classOf firstBad firstBadEntry entryRight factsRight tableIn sevenBitGroups entryFrom entriesFrom odd toBits bitsOf value packTo pack written compact sameBits orderBits decodeCompact decodePadded word wordWidths isWord asWord exponent buffer bufferBits ctx8 ctx8Bits cut ladder recordBits restOf
 wordEdges-hold = refl
+
+-- Least compact lengths: of a word, a buffer and the hash state, and of sums whose narrower side has the greater one.
+pub leastEdges : List Sample
+leastEdges =
+    sample (number (leastLength (word 4))) (number 16)
+    ∷ sample (number (leastLength (sum (word 1) (sum unit (word 2))))) (number 2)
+    ∷ sample (number (leastLength (sum (sum unit (word 3)) (word 2)))) (number 2)
+    ∷ sample (number (leastLength (buffer 12))) (number 13)
+    ∷ sample (number (leastLength ctx8)) (number 326)
+    ∷ []
+
+pub leastEdges-hold : map defined leastEdges ≡ map paper leastEdges
+unfolding leastEdges defined paper leastLength word buffer ctx8
+leastEdges-hold = refl

@@ -16,7 +16,7 @@ use Rattle.meaning.specs.Tables.{Columns, Table, factsIn}
 use Rattle.meaning.specs.Checked.{Sound, Bytes}
 use Rattle.meaning.specs.TypeCalls.{groupOf, groupsOf, groupsWritten}
 use Rattle.meaning.proofs.Groups.{length-fact, fact-at}
-use Rattle.meaning.proofs.Sounds.{sound-width, sound-size, sound-digit, sound-class}
+use Rattle.meaning.proofs.Sounds.{sound-width, sound-size, sound-digit, sound-class, sound-least}
 
 pub lowBytes-low : (k : ℕ) (s : List ℕ) → ((i : ℕ) → i < length s → getD s i 0 < 256) → k ≤ length s → lowBytes k (low k s) ++ drop k s ≡ s
 unfolding low lowBytes
@@ -37,16 +37,19 @@ below-drop n s b i h =
     let e = length-drop n s in let g = getD-drop n s i 0 in let l = b .below (n + i) (omega arith) in omega arith
 
 pub group-low : (s : List ℕ) (n : ℕ) → Bytes s → groupSize * (n + 1) ≤ length s
-    → group (getD (factsIn s .widths) n 0) (getD (factsIn s .sizes) n 0) (getD (factsIn s .paddeds) n 0) (getD (factsIn s .classes) n 0) ++ drop (groupSize * (n + 1)) s
+    → group (getD (factsIn s .widths) n 0) (getD (factsIn s .sizes) n 0) (getD (factsIn s .paddeds) n 0) (getD (factsIn s .classes) n 0) (getD (factsIn s .leasts) n 0) ++ drop (groupSize * (n + 1)) s
     ≡ drop (groupSize * n) s
 group-low s n b h =
-    (λ i. group (fact-at 0 8 n s h i) (fact-at 8 8 n s h i) (fact-at 16 1 n s h i) (fact-at 17 2 n s h i) ++ drop (groupSize * (n + 1)) s)
-    ∙ append-assoc (lowBytes 8 w) (lowBytes 8 z ++ (lowBytes 1 p ++ lowBytes 2 k)) end
+    (λ i. group (fact-at 0 8 n s h i) (fact-at 8 8 n s h i) (fact-at 16 1 n s h i) (fact-at 17 2 n s h i) (fact-at 19 8 n s h i) ++ drop (groupSize * (n + 1)) s)
+    ∙ append-assoc (lowBytes 8 w) (lowBytes 8 z ++ (lowBytes 1 p ++ (lowBytes 2 k ++ lowBytes 8 l))) end
     ∙ ap (λ (t : List ℕ). lowBytes 8 w ++ t)
-    (append-assoc (lowBytes 8 z) (lowBytes 1 p ++ lowBytes 2 k) end
+    (append-assoc (lowBytes 8 z) (lowBytes 1 p ++ (lowBytes 2 k ++ lowBytes 8 l)) end
     ∙ ap (λ (t : List ℕ). lowBytes 8 z ++ t)
-    (append-assoc (lowBytes 1 p) (lowBytes 2 k) end
-    ∙ ap (λ (t : List ℕ). lowBytes 1 p ++ t) (part 17 2 (groupSize * (n + 1)) (omega arith) (omega arith))
+    (append-assoc (lowBytes 1 p) (lowBytes 2 k ++ lowBytes 8 l) end
+    ∙ ap (λ (t : List ℕ). lowBytes 1 p ++ t)
+    (append-assoc (lowBytes 2 k) (lowBytes 8 l) end
+    ∙ ap (λ (t : List ℕ). lowBytes 2 k ++ t) (part 19 8 (groupSize * (n + 1)) (omega arith) (omega arith))
+    ∙ part 17 2 (groupSize * n + 19) (omega arith) (omega arith))
     ∙ part 16 1 (groupSize * n + 17) (omega arith) (omega arith))
     ∙ part 8 8 (groupSize * n + 16) (omega arith) (omega arith))
     ∙ part 0 8 (groupSize * n + 8) (omega arith) (omega arith)
@@ -63,6 +66,9 @@ group-low s n b h =
 
     k : ℕ
     k = low 2 (drop (groupSize * n + 17) s)
+
+    l : ℕ
+    l = low 8 (drop (groupSize * n + 19) s)
 
     end : List ℕ
     end = drop (groupSize * (n + 1)) s
@@ -85,7 +91,7 @@ module _ (c : Columns) (n : ℕ) (g : List ℕ) (b : Bytes g) (s : Sound (record
   group-is k h =
       let e = length-fact 0 8 g in
       let r = s .widths-reach in
-      (λ i. group (sym (sound-width t s k h) i) (sym (sound-size t s k h) i) (sym (sound-digit t s k h) i) (sym (sound-class t s k h) i) ++ drop (groupSize * (k + 1)) g)
+      (λ i. group (sym (sound-width t s k h) i) (sym (sound-size t s k h) i) (sym (sound-digit t s k h) i) (sym (sound-class t s k h) i) (sym (sound-least t s k h) i) ++ drop (groupSize * (k + 1)) g)
       ∙ group-low g k b (omega arith)
 
   written-to : (k : ℕ) → k ≤ n → groupsWritten c k g ≡ g

@@ -9,7 +9,7 @@
 --   groups-laid groups-more     the groups of the first n nodes lie one after the other; one more in a buffer
 --   digit-low                   a yes or no is a byte
 --   written-holds               in a buffer with the groups of the first n nodes, the facts of each are those of its tree
---   written-width written-size written-padded written-class written-right     each of them, and all as one test
+--   written-width written-size written-padded written-class written-least written-right     each of them, and all as one test
 --   sound-group                 each node of a sound table has its group
 -- Assumes nothing.
 use Prim.Native.Nat.{ℕ, zero, suc, _+_, _*_, _^_, _≤_, _<_}
@@ -24,18 +24,19 @@ use lib.ListN.{length, drop, getD, length-append, length-drop}
 use lib.Seq.{take-all, take-at, drop-at, drop-drop, drop-append-add, paste}
 use lib.Dec.{eqb}
 use borrow.Author.Tests.{eqb-true, eq-eqb}
-use Rattle.meaning.specs.Types.{width, size, padded}
+use Rattle.meaning.specs.Types.{width, size, padded, leastLength}
 use Rattle.meaning.specs.Groups.{low, lowBytes, group, groupSize, factIn}
 use Rattle.meaning.specs.Tables.{Columns, Facts, factsIn, table, tyAt, classOf, digit, factsRight}
 use Rattle.meaning.specs.Checked.{Sound}
 use Rattle.meaning.specs.TypeCalls.{groupOf, groupsOf, groupsWritten}
 use Rattle.meaning.proofs.Tests.{and-left, and-right}
 use Rattle.meaning.proofs.Types.{width-top, size-top}
+use Rattle.meaning.proofs.Leasts.{least-top}
 use Rattle.meaning.proofs.Trees.{class-le}
 use Rattle.meaning.proofs.Groups.{length-lowBytes, low-lowBytes, length-fact, fact-at}
 
-pub length-group : (w z p k : ℕ) → length (group w z p k) ≡ groupSize
-length-group w z p k = simp (length-append, length-lowBytes)
+pub length-group : (w z p k l : ℕ) → length (group w z p k l) ≡ groupSize
+length-group w z p k l = simp (length-append, length-lowBytes)
 
 -- Groups of the first n numbers, one after the other.
 unfoldable pub laid : (ℕ → List ℕ) → ℕ → List ℕ
@@ -58,12 +59,13 @@ laid-split g (suc n) k h =
     (λ l. let s = laid-split g n k l in (s .0 ++ g n, ap (λ (x : List ℕ). x ++ g n) (s .1) ∙ simp append-assoc))
     (eq-or-lt-of-le (let l : k ≤ n = omega arith in l))
 
--- The facts of a node are these four numbers.
-pub record Holds (f : Facts) (n w z p k : ℕ) : Type 0 where
+-- The facts of a node are these five numbers.
+pub record Holds (f : Facts) (n w z p k l : ℕ) : Type 0 where
   pub width-held : getD (f .widths) n 0 ≡ w
   pub size-held : getD (f .sizes) n 0 ≡ z
   pub padded-held : getD (f .paddeds) n 0 ≡ p
   pub class-held : getD (f .classes) n 0 ≡ k
+  pub least-held : getD (f .leasts) n 0 ≡ l
 
 -- One number of a group: what lies before it has so many bytes.
 number-at : (at k n x : ℕ) (g p r : List ℕ) → g ≡ p ++ (lowBytes k x ++ r) → length p ≡ groupSize * n + at → groupSize * (n + 1) ≤ length g → x < 256 ^ k
@@ -74,31 +76,32 @@ number-at at k n x g p r e d h l =
     ∙ ap (low k) (drop-at p (lowBytes k x ++ r) (groupSize * n + at) d)
     ∙ low-lowBytes k x r l
 
-pub group-at : (before after : List ℕ) (n w z p k : ℕ) → length before ≡ groupSize * n → w < 256 ^ 8 → z < 256 ^ 8 → p < 256 → k < 65536
-    → Holds (factsIn (before ++ (group w z p k ++ after))) n w z p k
-group-at before after n w z p k e hw hz hp hk =
-    let l : length (before ++ (group w z p k ++ after)) ≡ length before + (groupSize + length after) = simp (length-append, length-lowBytes) (omega arith) in
-    let g : List ℕ = before ++ (group w z p k ++ after) in
+pub group-at : (before after : List ℕ) (n w z p k l : ℕ) → length before ≡ groupSize * n → w < 256 ^ 8 → z < 256 ^ 8 → p < 256 → k < 65536 → l < 256 ^ 8
+    → Holds (factsIn (before ++ (group w z p k l ++ after))) n w z p k l
+group-at before after n w z p k l e hw hz hp hk hl =
+    let r : length (before ++ (group w z p k l ++ after)) ≡ length before + (groupSize + length after) = simp (length-append, length-lowBytes) (omega arith) in
+    let g : List ℕ = before ++ (group w z p k l ++ after) in
     record {
-      width-held = number-at 0 8 n w g before (lowBytes 8 z ++ (lowBytes 1 p ++ lowBytes 2 k) ++ after) (simp append-assoc) (omega arith) (omega arith) hw;
-      size-held = number-at 8 8 n z g (before ++ lowBytes 8 w) (lowBytes 1 p ++ lowBytes 2 k ++ after) (simp append-assoc) (simp (length-append, length-lowBytes) (omega arith)) (omega arith) hz;
-      padded-held = number-at 16 1 n p g (before ++ lowBytes 8 w ++ lowBytes 8 z) (lowBytes 2 k ++ after) (simp append-assoc) (simp (length-append, length-lowBytes) (omega arith)) (omega arith) hp;
-      class-held = number-at 17 2 n k g (before ++ lowBytes 8 w ++ lowBytes 8 z ++ lowBytes 1 p) after (simp append-assoc) (simp (length-append, length-lowBytes) (omega arith)) (omega arith) hk;
+      width-held = number-at 0 8 n w g before (lowBytes 8 z ++ (lowBytes 1 p ++ (lowBytes 2 k ++ lowBytes 8 l)) ++ after) (simp append-assoc) (omega arith) (omega arith) hw;
+      size-held = number-at 8 8 n z g (before ++ lowBytes 8 w) (lowBytes 1 p ++ (lowBytes 2 k ++ lowBytes 8 l) ++ after) (simp append-assoc) (simp (length-append, length-lowBytes) (omega arith)) (omega arith) hz;
+      padded-held = number-at 16 1 n p g (before ++ lowBytes 8 w ++ lowBytes 8 z) (lowBytes 2 k ++ lowBytes 8 l ++ after) (simp append-assoc) (simp (length-append, length-lowBytes) (omega arith)) (omega arith) hp;
+      class-held = number-at 17 2 n k g (before ++ lowBytes 8 w ++ lowBytes 8 z ++ lowBytes 1 p) (lowBytes 8 l ++ after) (simp append-assoc) (simp (length-append, length-lowBytes) (omega arith)) (omega arith) hk;
+      least-held = number-at 19 8 n l g (before ++ lowBytes 8 w ++ lowBytes 8 z ++ lowBytes 1 p ++ lowBytes 2 k) after (simp append-assoc) (simp (length-append, length-lowBytes) (omega arith)) (omega arith) hl;
     }
 
--- Four facts of every number, laid as groups with any bytes after them.
-pub laid-at : (w z p k : ℕ → ℕ) (n i : ℕ) (after : List ℕ) → i < n → w i < 256 ^ 8 → z i < 256 ^ 8 → p i < 256 → k i < 65536
-    → Holds (factsIn (laid (λ j. group (w j) (z j) (p j) (k j)) n ++ after)) i (w i) (z i) (p i) (k i)
-laid-at w z p k n i after h hw hz hp hk =
-    let g : ℕ → List ℕ = λ j. group (w j) (z j) (p j) (k j) in
+-- Five facts of every number, laid as groups with any bytes after them.
+pub laid-at : (w z p k l : ℕ → ℕ) (n i : ℕ) (after : List ℕ) → i < n → w i < 256 ^ 8 → z i < 256 ^ 8 → p i < 256 → k i < 65536 → l i < 256 ^ 8
+    → Holds (factsIn (laid (λ j. group (w j) (z j) (p j) (k j) (l j)) n ++ after)) i (w i) (z i) (p i) (k i) (l i)
+laid-at w z p k l n i after h hw hz hp hk hl =
+    let g : ℕ → List ℕ = λ j. group (w j) (z j) (p j) (k j) (l j) in
     let s = laid-split g n i h in
     let e : laid g n ++ after ≡ laid g i ++ (g i ++ (s .0 ++ after)) = ap (λ (x : List ℕ). x ++ after) (s .1) ∙ simp append-assoc in
-    subst (λ (x : List ℕ). Holds (factsIn x) i (w i) (z i) (p i) (k i)) (sym e)
-    (group-at (laid g i) (s .0 ++ after) i (w i) (z i) (p i) (k i) (length-laid g i (λ j. length-group (w j) (z j) (p j) (k j))) hw hz hp hk)
+    subst (λ (x : List ℕ). Holds (factsIn x) i (w i) (z i) (p i) (k i) (l i)) (sym e)
+    (group-at (laid g i) (s .0 ++ after) i (w i) (z i) (p i) (k i) (l i) (length-laid g i (λ j. length-group (w j) (z j) (p j) (k j) (l j))) hw hz hp hk hl)
 
 pub length-groupOf : (c : Columns) (n : ℕ) → length (groupOf c n) ≡ groupSize
 unfolding groupOf
-length-groupOf c n = length-group (width (tyAt c n)) (size (tyAt c n)) (digit (padded (tyAt c n))) (classOf c n)
+length-groupOf c n = length-group (width (tyAt c n)) (size (tyAt c n)) (digit (padded (tyAt c n))) (classOf c n) (leastLength (tyAt c n))
 
 pub groups-laid : (c : Columns) (n : ℕ) → groupsOf c n ≡ laid (groupOf c) n
 unfolding groupsOf laid
@@ -123,13 +126,13 @@ groups-more c n old =
     let o = length-groupOf c n in
     rw (take-at g d (groupSize * n) l, take-all groupSize (groupOf c n) (omega arith), after, add-one)
 
-pub holds-right : (c : Columns) (f : Facts) (n : ℕ) → Holds f n (width (tyAt c n)) (size (tyAt c n)) (digit (padded (tyAt c n))) (classOf c n) → factsRight c f n ≡ true
+pub holds-right : (c : Columns) (f : Facts) (n : ℕ) → Holds f n (width (tyAt c n)) (size (tyAt c n)) (digit (padded (tyAt c n))) (classOf c n) (leastLength (tyAt c n)) → factsRight c f n ≡ true
 unfolding factsRight
 holds-right c f n s =
-    rw (eq-eqb _ _ (s .width-held), eq-eqb _ _ (s .size-held), eq-eqb _ _ (s .padded-held), eq-eqb _ _ (s .class-held))
+    rw (eq-eqb _ _ (s .width-held), eq-eqb _ _ (s .size-held), eq-eqb _ _ (s .padded-held), eq-eqb _ _ (s .class-held), eq-eqb _ _ (s .least-held))
 
 module _ (c : Columns) (f : Facts) (n : ℕ) where
-  -- The four tests of a node's facts.
+  -- The five tests of a node's facts.
   abbrev w : Bool
   w = eqb (getD (f .widths) n 0) (width (tyAt c n))
 
@@ -142,16 +145,21 @@ module _ (c : Columns) (f : Facts) (n : ℕ) where
   abbrev k : Bool
   k = eqb (getD (f .classes) n 0) (classOf c n)
 
-  pub right-holds : factsRight c f n ≡ true → Holds f n (width (tyAt c n)) (size (tyAt c n)) (digit (padded (tyAt c n))) (classOf c n)
+  abbrev l : Bool
+  l = eqb (getD (f .leasts) n 0) (leastLength (tyAt c n))
+
+  pub right-holds : factsRight c f n ≡ true → Holds f n (width (tyAt c n)) (size (tyAt c n)) (digit (padded (tyAt c n))) (classOf c n) (leastLength (tyAt c n))
   unfolding factsRight
   right-holds all =
-      let three = and-left (w && z && p) k all in
+      let four = and-left (w && z && p && k) l all in
+      let three = and-left (w && z && p) k four in
       let both = and-left (w && z) p three in
       record {
         width-held = eqb-true (getD (f .widths) n 0) (width (tyAt c n)) (and-left w z both);
         size-held = eqb-true (getD (f .sizes) n 0) (size (tyAt c n)) (and-right w z both);
         padded-held = eqb-true (getD (f .paddeds) n 0) (digit (padded (tyAt c n))) (and-right (w && z) p three);
-        class-held = eqb-true (getD (f .classes) n 0) (classOf c n) (and-right (w && z && p) k all);
+        class-held = eqb-true (getD (f .classes) n 0) (classOf c n) (and-right (w && z && p) k four);
+        least-held = eqb-true (getD (f .leasts) n 0) (leastLength (tyAt c n)) (and-right (w && z && p && k) l all);
       }
 
 pub digit-low : (b : Bool) → digit b < 256
@@ -159,15 +167,16 @@ digit-low true = omega arith
 digit-low false = omega arith
 
 module _ (c : Columns) (n : ℕ) (old : List ℕ) (k : ℕ) (h : k < n) (few : n ≤ 1024) where
-  pub written-holds : Holds (factsIn (groupsWritten c n old)) k (width (tyAt c k)) (size (tyAt c k)) (digit (padded (tyAt c k))) (classOf c k)
+  pub written-holds : Holds (factsIn (groupsWritten c n old)) k (width (tyAt c k)) (size (tyAt c k)) (digit (padded (tyAt c k))) (classOf c k) (leastLength (tyAt c k))
   unfolding groupOf
   written-holds =
       let w = width-top (tyAt c k) in
       let z = size-top (tyAt c k) in
       let l = class-le c k in
+      let m = least-top (tyAt c k) in
       rw (groups-laid c n)
-      (laid-at (λ j. width (tyAt c j)) (λ j. size (tyAt c j)) (λ j. digit (padded (tyAt c j))) (classOf c) n k (drop (groupSize * n) old) h
-      (omega arith) (omega arith) (digit-low (padded (tyAt c k))) (omega arith))
+      (laid-at (λ j. width (tyAt c j)) (λ j. size (tyAt c j)) (λ j. digit (padded (tyAt c j))) (classOf c) (λ j. leastLength (tyAt c j)) n k (drop (groupSize * n) old) h
+      (omega arith) (omega arith) (digit-low (padded (tyAt c k))) (omega arith) (omega arith))
 
   pub written-width : getD (factsIn (groupsWritten c n old) .widths) k 0 ≡ width (tyAt c k)
   written-width = written-holds .width-held
@@ -180,6 +189,9 @@ module _ (c : Columns) (n : ℕ) (old : List ℕ) (k : ℕ) (h : k < n) (few : n
 
   pub written-class : getD (factsIn (groupsWritten c n old) .classes) k 0 ≡ classOf c k
   written-class = written-holds .class-held
+
+  pub written-least : getD (factsIn (groupsWritten c n old) .leasts) k 0 ≡ leastLength (tyAt c k)
+  written-least = written-holds .least-held
 
   pub written-right : factsRight c (factsIn (groupsWritten c n old)) k ≡ true
   written-right = holds-right c (factsIn (groupsWritten c n old)) k written-holds

@@ -82,11 +82,12 @@ whole n l =
     (λ e. let h = leb-true n (l / groupSize) e in le-leb (groupSize * n) l (omega arith))
     (λ e. let h = leb-true (groupSize * n) l e in le-leb n (l / groupSize) (omega arith))
 
-four-times : (b : Bool) → (b && b && b && b) ≡ b
-four-times true = refl
-four-times false = refl
+five-times : (b : Bool) → (b && b && b && b && b) ≡ b
+five-times true = refl
+five-times false = refl
 
 pub groups-reach : (n : ℕ) (g : List ℕ) → factsReach (factsIn g) n ≡ groupsReach g n
 groups-reach n g =
-    let e : factsReach (factsIn g) n ≡ (leb n (length g / groupSize) && leb n (length g / groupSize) && leb n (length g / groupSize) && leb n (length g / groupSize)) = rw (length-fact 0 8 g, length-fact 8 8 g, length-fact 16 1 g, length-fact 17 2 g) in
-    e ∙ four-times (leb n (length g / groupSize)) ∙ whole n (length g)
+    let b : Bool = leb n (length g / groupSize) in
+    let e : factsReach (factsIn g) n ≡ (b && b && b && b && b) = rw (length-fact 0 8 g, length-fact 8 8 g, length-fact 16 1 g, length-fact 17 2 g, length-fact 19 8 g) in
+    e ∙ five-times b ∙ whole n (length g)

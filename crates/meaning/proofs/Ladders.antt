@@ -8,6 +8,7 @@
 --   ladder-fails                a rung whose fact fails hands on
 --   ladder-clear                an accepted ladder's first rung fails, and the others accept
 --   ladder-value                a ladder accepts nothing but its value
+--   ladder-any                  one that accepts accepts any other value in its place
 --   accepted-refused            an accepted answer is no refusal
 --   Shape shapeRight            the count and the columns of an accepted table, as facts; the test of them
 --   shape-right right-shape     the test passes exactly if they hold
@@ -93,6 +94,12 @@ ladder-value [] a v h = ap (valueOr a) h
 ladder-value (rung true n p ∷ rs) a v h = absurd (accepted-refused v n p h)
 ladder-value (rung false n p ∷ rs) a v h = ladder-value rs a v h
 
+pub ladder-any : {A B : Type 0} (rs : List Rung) (a v : A) (b : B) → ladder rs a ≡ accepted v → ladder rs b ≡ accepted b
+unfolding ladder
+ladder-any [] a v b h = refl
+ladder-any (rung true n p ∷ rs) a v b h = absurd (accepted-refused v n p (sym h))
+ladder-any (rung false n p ∷ rs) a v b h = ladder-any rs a v b h
+
 pub kept-refused : {A : Type 0} (a : Answer A) (n p : ℕ) (before after : List ℕ) → a ≡ refused n p → kept a before after ≡ before
 kept-refused a n p before after h = ap (λ x. kept x before after) h
 
@@ -116,6 +123,7 @@ pub record Shape (t : Table) : Type 0 where
   pub sizes-reach : t .count ≤ length (t .facts .sizes)
   pub paddeds-reach : t .count ≤ length (t .facts .paddeds)
   pub classes-reach : t .count ≤ length (t .facts .classes)
+  pub leasts-reach : t .count ≤ length (t .facts .leasts)
 
 -- The test of count and columns.
 abbrev pub shapeRight : Table → Bool
@@ -131,7 +139,8 @@ shape-right t h =
     let c = and-left (countRight n) (columnsReach cs n) front in
     let k = and-right (countRight n) (columnsReach cs n) front in
     let k2 = and-left (reaches n (cs .kinds) && reaches n (cs .lefts)) (reaches n (cs .rights)) k in
-    let f3 = and-left (reaches n (fs .widths) && reaches n (fs .sizes) && reaches n (fs .paddeds)) (reaches n (fs .classes)) back in
+    let f4 = and-left (reaches n (fs .widths) && reaches n (fs .sizes) && reaches n (fs .paddeds) && reaches n (fs .classes)) (reaches n (fs .leasts)) back in
+    let f3 = and-left (reaches n (fs .widths) && reaches n (fs .sizes) && reaches n (fs .paddeds)) (reaches n (fs .classes)) f4 in
     let f2 = and-left (reaches n (fs .widths) && reaches n (fs .sizes)) (reaches n (fs .paddeds)) f3 in
     record {
       some-node = leb-true 1 n (and-left (leb 1 n) (leb n 1024) c);
@@ -144,7 +153,10 @@ shape-right t h =
       paddeds-reach = leb-true n (length (fs .paddeds)) (and-right (reaches n (fs .widths) && reaches n (fs .sizes)) (reaches n (fs .paddeds)) f3);
       classes-reach =
           leb-true n (length (fs .classes))
-          (and-right (reaches n (fs .widths) && reaches n (fs .sizes) && reaches n (fs .paddeds)) (reaches n (fs .classes)) back);
+          (and-right (reaches n (fs .widths) && reaches n (fs .sizes) && reaches n (fs .paddeds)) (reaches n (fs .classes)) f4);
+      leasts-reach =
+          leb-true n (length (fs .leasts))
+          (and-right (reaches n (fs .widths) && reaches n (fs .sizes) && reaches n (fs .paddeds) && reaches n (fs .classes)) (reaches n (fs .leasts)) back);
     }
 
 pub right-shape : (t : Table) → Shape t → shapeRight t ≡ true
@@ -159,6 +171,7 @@ right-shape t s =
       le-leb (t .count) (length (t .facts .sizes)) (s .sizes-reach),
       le-leb (t .count) (length (t .facts .paddeds)) (s .paddeds-reach),
       le-leb (t .count) (length (t .facts .classes)) (s .classes-reach),
+      le-leb (t .count) (length (t .facts .leasts)) (s .leasts-reach),
     )
 
 -- The test that a node is at fault.
@@ -182,6 +195,7 @@ accepted-sound t h =
       sizes-reach = s .sizes-reach;
       paddeds-reach = s .paddeds-reach;
       classes-reach = s .classes-reach;
+      leasts-reach = s .leasts-reach;
       entries = λ n l. and-left (entryRight (t .columns) n) (factsRight (t .columns) (t .facts) n) (ok n (omega arith));
       told = λ n l. and-right (entryRight (t .columns) n) (factsRight (t .columns) (t .facts) n) (ok n (omega arith));
     }
@@ -201,6 +215,7 @@ sound-shape t s =
       sizes-reach = s .sizes-reach;
       paddeds-reach = s .paddeds-reach;
       classes-reach = s .classes-reach;
+      leasts-reach = s .leasts-reach;
     }
 
 pub sound-accepted : (t : Table) → Sound t → checkTableCall t ≡ accepted (tt {0})

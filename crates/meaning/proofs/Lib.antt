@@ -5,6 +5,7 @@ pub mod Edges
 pub mod Tests
 pub mod Choices
 pub mod Types
+pub mod Leasts
 pub mod Pasted
 pub mod Groups
 pub mod Trees

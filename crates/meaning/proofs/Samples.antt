@@ -5,7 +5,7 @@ use mathlib.Core.Bool.{true, false}
 use mathlib.Core.List.{List, [], _∷_, map}
 use Prim.Native.Nat.{ℕ}
 use Rattle.meaning.specs.Choice.{least, from}
-use Rattle.meaning.specs.Types.{same, bits, width, size, padded}
+use Rattle.meaning.specs.Types.{same, bits, width, size, padded, leastLength}
 use Rattle.meaning.specs.Tables.{tyTo, tyAt, classOf, firstBad, firstBadEntry, entryRight, factsRight}
 use Rattle.meaning.specs.Files.{tableIn, sevenBitGroups, entryFrom, entriesFrom}
 use Rattle.meaning.specs.Bits.{odd, toBits, bitsOf, value, packTo, pack, written}
@@ -29,12 +29,12 @@ at s n = stream-of s n 0
 pub samples : List Sample
 samples =
     sample (node-facts (factsOfCall tableS 6))
-    (node-facts (accepted (record { widthOf = 1; sizeOf = 3; paddedOf = false; classNo = 1; kindOf = 1; leftNode = 0; rightNode = 0 })))
+    (node-facts (accepted (record { widthOf = 1; sizeOf = 3; paddedOf = false; classNo = 1; kindOf = 1; leftNode = 0; rightNode = 0; leastOf = 1 })))
     ∷ sample (flag (sameTypeCall tableS 3 8)) (flag (accepted false))
     ∷ sample (node-facts (factsOfCall tableS 5))
-    (node-facts (accepted (record { widthOf = 3; sizeOf = 11; paddedOf = true; classNo = 5; kindOf = 1; leftNode = 1; rightNode = 4 })))
+    (node-facts (accepted (record { widthOf = 3; sizeOf = 11; paddedOf = true; classNo = 5; kindOf = 1; leftNode = 1; rightNode = 4; leastOf = 2 })))
     ∷ sample (node-facts (factsOfCall tableS 7))
-    (node-facts (accepted (record { widthOf = 4; sizeOf = 15; paddedOf = true; classNo = 7; kindOf = 2; leftNode = 5; rightNode = 1 })))
+    (node-facts (accepted (record { widthOf = 4; sizeOf = 15; paddedOf = true; classNo = 7; kindOf = 2; leftNode = 5; rightNode = 1; leastOf = 3 })))
     ∷ sample (count (fromCompactCall tableS (at (0x40 ∷ []) 2) 5 spare)) (count (accepted 2))
     ∷ sample (out (fromCompactOut tableS (at (0x40 ∷ []) 2) 5 spare)) (out (0x20 ∷ 0xFF ∷ []))
     ∷ sample (count (fromCompactCall tableS (at (0xC0 ∷ []) 3) 5 spare)) (count (accepted 3))
@@ -74,5 +74,5 @@ samples =
 
 -- The definitions say what the paper says.
 pub marked : map defined samples ≡ map paper samples
-unfolding samples at defined paper tableS tableB spare least from same bits width size padded tyTo tyAt classOf firstBad firstBadEntry entryRight factsRight tableIn sevenBitGroups entryFrom entriesFrom odd toBits bitsOf value packTo pack written compact sameBits orderBits decodeCompact decodePadded word wordWidths isWord asWord exponent buffer bufferBits ctx8 ctx8Bits cut ladder recordBits restOf
+unfolding samples at defined paper tableS tableB spare least from same bits width size padded leastLength tyTo tyAt classOf firstBad firstBadEntry entryRight factsRight tableIn sevenBitGroups entryFrom entriesFrom odd toBits bitsOf value packTo pack written compact sameBits orderBits decodeCompact decodePadded word wordWidths isWord asWord exponent buffer bufferBits ctx8 ctx8Bits cut ladder recordBits restOf
 marked = refl

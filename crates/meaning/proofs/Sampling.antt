@@ -12,7 +12,7 @@ use Prim.Native.Nat.{ℕ, Ordering}
 use lib.ListN.{length}
 use mathlib.Core.Path.{_≡_, refl}
 use Rattle.meaning.specs.Choice.{least, from}
-use Rattle.meaning.specs.Types.{same, width, size, padded}
+use Rattle.meaning.specs.Types.{same, width, size, padded, leastLength}
 use Rattle.meaning.specs.Groups.{low, lowBytes, factIn}
 use Rattle.meaning.specs.Tables.{tyTo, tyAt, classOf, Table, columns, facts, factsIn, NodeFacts}
 use Rattle.meaning.specs.Files.{Entry, tableIn, sevenBitGroups, entryFrom, entriesFrom, columnsOf}
@@ -34,11 +34,11 @@ unfoldable pub tableS : Table
 tableS =
     columnsTable (0 ∷ 1 ∷ 2 ∷ 1 ∷ 2 ∷ 1 ∷ 1 ∷ 2 ∷ 1 ∷ 1 ∷ []) (0 ∷ 0 ∷ 0 ∷ 0 ∷ 1 ∷ 1 ∷ 0 ∷ 5 ∷ 1 ∷ 1 ∷ []) (0 ∷ 0 ∷ 0 ∷ 1 ∷ 1 ∷ 4 ∷ 0 ∷ 1 ∷ 0 ∷ 2 ∷ [])
     (0 ∷ 1 ∷ 0 ∷ 2 ∷ 2 ∷ 3 ∷ 1 ∷ 4 ∷ 2 ∷ 2 ∷ []) (1 ∷ 3 ∷ 3 ∷ 5 ∷ 7 ∷ 11 ∷ 3 ∷ 15 ∷ 5 ∷ 7 ∷ []) (0 ∷ 0 ∷ 0 ∷ 1 ∷ 0 ∷ 1 ∷ 0 ∷ 1 ∷ 1 ∷ 1 ∷ [])
-    (0 ∷ 1 ∷ 2 ∷ 3 ∷ 4 ∷ 5 ∷ 1 ∷ 7 ∷ 8 ∷ 9 ∷ []) 10
+    (0 ∷ 1 ∷ 2 ∷ 3 ∷ 4 ∷ 5 ∷ 1 ∷ 7 ∷ 8 ∷ 9 ∷ []) (0 ∷ 1 ∷ 0 ∷ 1 ∷ 2 ∷ 2 ∷ 1 ∷ 3 ∷ 1 ∷ 1 ∷ []) 10
 
 -- It is what its file says.
 fileS : tableFrom (0x0A ∷ 0x00 ∷ 0x01 ∷ 0x00 ∷ 0x00 ∷ 0x02 ∷ 0x00 ∷ 0x00 ∷ 0x01 ∷ 0x00 ∷ 0x01 ∷ 0x02 ∷ 0x01 ∷ 0x01 ∷ 0x01 ∷ 0x01 ∷ 0x04 ∷ 0x01 ∷ 0x00 ∷ 0x00 ∷ 0x02 ∷ 0x05 ∷ 0x01 ∷ 0x01 ∷ 0x01 ∷ 0x00 ∷ 0x01 ∷ 0x01 ∷ 0x02 ∷ []) ≡ tableS
-unfolding tableS tableFrom tableOf groupOf groupsOf low lowBytes factIn from same width size padded tyTo tyAt classOf least tableIn sevenBitGroups entryFrom entriesFrom
+unfolding tableS tableFrom tableOf groupOf groupsOf low lowBytes factIn from same width size padded leastLength tyTo tyAt classOf least tableIn sevenBitGroups entryFrom entriesFrom
 fileS = refl
 
 -- A table with the words 0 to 4 (nodes 1 to 5) and buffer types 0 and 1 (nodes 6 and 8).
@@ -46,11 +46,11 @@ unfoldable pub tableB : Table
 tableB =
     columnsTable (0 ∷ 1 ∷ 2 ∷ 2 ∷ 2 ∷ 2 ∷ 1 ∷ 1 ∷ 2 ∷ []) (0 ∷ 0 ∷ 1 ∷ 2 ∷ 3 ∷ 4 ∷ 0 ∷ 0 ∷ 7 ∷ []) (0 ∷ 0 ∷ 1 ∷ 2 ∷ 3 ∷ 4 ∷ 4 ∷ 5 ∷ 6 ∷ [])
     (0 ∷ 1 ∷ 2 ∷ 4 ∷ 8 ∷ 16 ∷ 9 ∷ 17 ∷ 26 ∷ []) (1 ∷ 3 ∷ 7 ∷ 15 ∷ 31 ∷ 63 ∷ 33 ∷ 65 ∷ 99 ∷ []) (0 ∷ 0 ∷ 0 ∷ 0 ∷ 0 ∷ 0 ∷ 1 ∷ 1 ∷ 1 ∷ [])
-    (0 ∷ 1 ∷ 2 ∷ 3 ∷ 4 ∷ 5 ∷ 6 ∷ 7 ∷ 8 ∷ []) 9
+    (0 ∷ 1 ∷ 2 ∷ 3 ∷ 4 ∷ 5 ∷ 6 ∷ 7 ∷ 8 ∷ []) (0 ∷ 1 ∷ 2 ∷ 4 ∷ 8 ∷ 16 ∷ 1 ∷ 1 ∷ 2 ∷ []) 9
 
 -- It is what its file says.
 fileB : tableFrom (0x09 ∷ 0x00 ∷ 0x01 ∷ 0x00 ∷ 0x00 ∷ 0x02 ∷ 0x01 ∷ 0x01 ∷ 0x02 ∷ 0x02 ∷ 0x02 ∷ 0x02 ∷ 0x03 ∷ 0x03 ∷ 0x02 ∷ 0x04 ∷ 0x04 ∷ 0x01 ∷ 0x00 ∷ 0x04 ∷ 0x01 ∷ 0x00 ∷ 0x05 ∷ 0x02 ∷ 0x07 ∷ 0x06 ∷ []) ≡ tableB
-unfolding tableB tableFrom tableOf groupOf groupsOf low lowBytes factIn from same width size padded tyTo tyAt classOf least tableIn sevenBitGroups entryFrom entriesFrom
+unfolding tableB tableFrom tableOf groupOf groupsOf low lowBytes factIn from same width size padded leastLength tyTo tyAt classOf least tableIn sevenBitGroups entryFrom entriesFrom
 fileB = refl
 
 -- What a call answers, or leaves in its output.

@@ -5,7 +5,7 @@
 --   sound-kind                  its kind is 0, 1 or 2
 --   sound-left sound-right-side     its sides are in the table
 --   sound-left-falls sound-right-falls      those of a sum and a product stand earlier
---   sound-width sound-size sound-digit sound-padded sound-class     its facts are those of its tree
+--   sound-width sound-size sound-digit sound-padded sound-class sound-least     its facts are those of its tree
 -- Assumes nothing.
 use Prim.Native.Nat.{ℕ, zero, suc, _≤_, _<_}
 use mathlib.Core.Path.{_≡_, refl, ap, _∙_}
@@ -14,7 +14,7 @@ use native.Mathlib.Omega.{arith}
 use lib.Dec.{eqb}
 use lib.ListN.{getD}
 use borrow.Author.Tests.{eqb-true}
-use Rattle.meaning.specs.Types.{width, size, padded}
+use Rattle.meaning.specs.Types.{width, size, padded, leastLength}
 use Rattle.meaning.specs.Tables.{Table, kind, left, right, node, tyAt, classOf, digit, sidesRight, entryRight}
 use Rattle.meaning.specs.Checked.{Sound}
 use Rattle.meaning.proofs.Tests.{and-left, and-right}
@@ -72,8 +72,8 @@ module _ (t : Table) (s : Sound t) (n : ℕ) (h : n < t .count) where
   pub sound-right-falls : 1 ≤ kind (t .columns) n → right (t .columns) n < n
   sound-right-falls k = sides-fall (kind (t .columns) n) n (left (t .columns) n) (right (t .columns) n) entry k .1
 
-  -- The four facts.
-  held : Holds (t .facts) n (width (tyAt (t .columns) n)) (size (tyAt (t .columns) n)) (digit (padded (tyAt (t .columns) n))) (classOf (t .columns) n)
+  -- The five facts.
+  held : Holds (t .facts) n (width (tyAt (t .columns) n)) (size (tyAt (t .columns) n)) (digit (padded (tyAt (t .columns) n))) (classOf (t .columns) n) (leastLength (tyAt (t .columns) n))
   held = right-holds (t .columns) (t .facts) n (s .told n h)
 
   pub sound-width : getD (t .facts .widths) n 0 ≡ width (tyAt (t .columns) n)
@@ -90,3 +90,6 @@ module _ (t : Table) (s : Sound t) (n : ℕ) (h : n < t .count) where
 
   pub sound-class : getD (t .facts .classes) n 0 ≡ classOf (t .columns) n
   sound-class = held .class-held
+
+  pub sound-least : getD (t .facts .leasts) n 0 ≡ leastLength (tyAt (t .columns) n)
+  sound-least = held .least-held

@@ -21,6 +21,7 @@ pub record Sound (t : Table) : Type 0 where
   pub sizes-reach : t .count ≤ length (t .facts .sizes)
   pub paddeds-reach : t .count ≤ length (t .facts .paddeds)
   pub classes-reach : t .count ≤ length (t .facts .classes)
+  pub leasts-reach : t .count ≤ length (t .facts .leasts)
   pub entries : (n : ℕ) → n < t .count → entryRight (t .columns) n ≡ true
   pub told : (n : ℕ) → n < t .count → factsRight (t .columns) (t .facts) n ≡ true
 

@@ -1,7 +1,8 @@
--- The layout before document 02's K9: each fact of the nodes in a column of its own. No call takes it any more; it stands here for the theorem that
--- both layouts hold the same facts and give every call the same answer (laws/proofs/Layouts and the files beside it).
+-- The columns of document 02's K9: each of the five facts that it names in a column of its own, as the first four lay before it. No call takes
+-- them; they stand here for the theorem that both layouts hold the same facts and give every call the same answer (laws/proofs/Layouts and the
+-- files beside it).
 --
---   columnsTable                a table from its seven columns and its count
+--   columnsTable                a table from its eight columns and its count
 --   filled factsWritten factsKept               columns of facts after a call
 --   fillColumns fillColumnsOut  facts from entries, written to columns
 --   readColumns readColumnsEntries readColumnsFacts     a table from its file, its facts written to columns
@@ -11,21 +12,21 @@ use mathlib.Core.List.{List, [], _∷_, _++_, map}
 use lib.ListN.{length, drop}
 use lib.Dec.{ltb}
 use Rattle.meaning.specs.Choice.{from}
-use Rattle.meaning.specs.Types.{width, size, padded}
+use Rattle.meaning.specs.Types.{width, size, padded, leastLength}
 use Rattle.meaning.specs.Tables.{Columns, Facts, Table, columns, facts, tyAt, classOf, digit, countRight, columnsReach, factsReach, firstBadEntry}
 use Rattle.meaning.specs.Files.{tableIn, columnsOf}
 use Rattle.meaning.specs.Ladder.{Answer, rung, ladder, kept}
 use Rattle.meaning.specs.TypeCalls.{fileRung, entriesIn, entriesWritten, columnsKept}
 
--- A table from its seven columns and its count.
-abbrev pub columnsTable : List ℕ → List ℕ → List ℕ → List ℕ → List ℕ → List ℕ → List ℕ → ℕ → Table
-columnsTable ks ls rs ws ss ps cs n = record { columns = columns ks ls rs; facts = facts ws ss ps cs; count = n }
+-- A table from its eight columns and its count.
+abbrev pub columnsTable : List ℕ → List ℕ → List ℕ → List ℕ → List ℕ → List ℕ → List ℕ → List ℕ → ℕ → Table
+columnsTable ks ls rs ws ss ps cs ms n = record { columns = columns ks ls rs; facts = facts ws ss ps cs ms; count = n }
 
 -- The contents of a column with n entries written from the front on; entries past them stay.
 abbrev pub filled : (ℕ → ℕ) → ℕ → List ℕ → List ℕ
 filled f n old = map f (from 0 n) ++ drop n old
 
--- The facts of the first n nodes, written over four columns.
+-- The facts of the first n nodes, written over five columns.
 abbrev pub factsWritten : Columns → ℕ → Facts → Facts
 factsWritten c n f =
     record {
@@ -33,6 +34,7 @@ factsWritten c n f =
       sizes = filled (λ k. size (tyAt c k)) n (f .sizes);
       paddeds = filled (λ k. digit (padded (tyAt c k))) n (f .paddeds);
       classes = filled (classOf c) n (f .classes);
+      leasts = filled (λ k. leastLength (tyAt c k)) n (f .leasts);
     }
 
 -- The facts' columns after a call: as they stood if it was refused.
@@ -43,6 +45,7 @@ factsKept a before after =
       sizes = kept a (before .sizes) (after .sizes);
       paddeds = kept a (before .paddeds) (after .paddeds);
       classes = kept a (before .classes) (after .classes);
+      leasts = kept a (before .leasts) (after .leasts);
     }
 
 -- `fill_facts`: the entries are judged as in a sound table, and the facts' columns must reach the count.

@@ -1,4 +1,4 @@
--- Tables: document 01, "The type table", and document 02, K9. The entries of a table lie in three lent columns; its facts lie in one lent buffer,
+-- Tables: document 01, "The type table", and document 02, K9 and K1. The entries of a table lie in three lent columns; its facts lie in one lent buffer,
 -- a group of bytes for each node.
 --
 --   Columns Facts Table         what a call is handed
@@ -20,7 +20,7 @@ use mathlib.Core.List.{List}
 use lib.ListN.{length, getD}
 use lib.Dec.{eqb, ltb, leb}
 use Rattle.meaning.specs.Choice.{least}
-use Rattle.meaning.specs.Types.{Ty, unit, sum, prod, same, width, size, padded}
+use Rattle.meaning.specs.Types.{Ty, unit, sum, prod, same, width, size, padded, leastLength}
 use Rattle.meaning.specs.Groups.{groupSize, factIn}
 
 -- The entries of the nodes: a kind (0 unit, 1 sum, 2 product) and the numbers of the two sides.
@@ -29,12 +29,13 @@ pub record Columns : Type 0 where
   pub lefts : List ℕ
   pub rights : List ℕ
 
--- The facts of the nodes, as 64-bit numbers, a 0 or 1, and a node number.
+-- The facts of the nodes: widths, sizes and least lengths as 64-bit numbers, padded as 0 or 1, classes as node numbers.
 pub record Facts : Type 0 where
   pub widths : List ℕ
   pub sizes : List ℕ
   pub paddeds : List ℕ
   pub classes : List ℕ
+  pub leasts : List ℕ
 
 -- A table with its facts, as it is handed to a call.
 pub record Table : Type 0 where
@@ -46,13 +47,13 @@ pub record Table : Type 0 where
 abbrev pub columns : List ℕ → List ℕ → List ℕ → Columns
 columns ks ls rs = record { kinds = ks; lefts = ls; rights = rs }
 
--- Facts from their four lists.
-abbrev pub facts : List ℕ → List ℕ → List ℕ → List ℕ → Facts
-facts ws ss ps cs = record { widths = ws; sizes = ss; paddeds = ps; classes = cs }
+-- Facts from their five lists.
+abbrev pub facts : List ℕ → List ℕ → List ℕ → List ℕ → List ℕ → Facts
+facts ws ss ps cs ms = record { widths = ws; sizes = ss; paddeds = ps; classes = cs; leasts = ms }
 
--- The facts that groups hold: width, size, padded and class, in this order.
+-- The facts that groups hold: width, size, padded, class and least length, in this order.
 abbrev pub factsIn : List ℕ → Facts
-factsIn gs = facts (factIn 0 8 gs) (factIn 8 8 gs) (factIn 16 1 gs) (factIn 17 2 gs)
+factsIn gs = facts (factIn 0 8 gs) (factIn 8 8 gs) (factIn 16 1 gs) (factIn 17 2 gs) (factIn 19 8 gs)
 
 -- A table from the columns of its entries, the groups of its facts and its count.
 abbrev pub table : List ℕ → List ℕ → List ℕ → List ℕ → ℕ → Table
@@ -103,6 +104,7 @@ pub record NodeFacts : Type 0 where
   pub kindOf : ℕ
   pub leftNode : ℕ
   pub rightNode : ℕ
+  pub leastOf : ℕ
 
 -- The facts of a node, by its tree.
 abbrev pub factsAt : Columns → ℕ → NodeFacts
@@ -115,6 +117,7 @@ factsAt c n =
       kindOf = kind c n;
       leftNode = left c n;
       rightNode = right c n;
+      leastOf = leastLength (tyAt c n);
     }
 
 -- The sides that a kind allows at node n: zeros for a unit, earlier nodes for a sum and a product. There is no other kind.
@@ -135,6 +138,7 @@ factsRight c f n =
     && eqb (getD (f .sizes) n 0) (size (tyAt c n))
     && eqb (getD (f .paddeds) n 0) (digit (padded (tyAt c n)))
     && eqb (getD (f .classes) n 0) (classOf c n)
+    && eqb (getD (f .leasts) n 0) (leastLength (tyAt c n))
 
 -- A table has 1 to 1,024 nodes.
 abbrev pub countRight : ℕ → Bool
@@ -150,7 +154,7 @@ columnsReach c n = reaches n (c .kinds) && reaches n (c .lefts) && reaches n (c 
 
 -- There are facts for each of the nodes.
 abbrev pub factsReach : Facts → ℕ → Bool
-factsReach f n = reaches n (f .widths) && reaches n (f .sizes) && reaches n (f .paddeds) && reaches n (f .classes)
+factsReach f n = reaches n (f .widths) && reaches n (f .sizes) && reaches n (f .paddeds) && reaches n (f .classes) && reaches n (f .leasts)
 
 -- There is a whole group for each of the nodes.
 abbrev pub groupsReach : List ℕ → ℕ → Bool

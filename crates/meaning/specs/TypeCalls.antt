@@ -13,7 +13,7 @@ use mathlib.Core.Bool.{Bool, true, false, not, _&&_}
 use mathlib.Core.List.{List, [], _∷_, _++_, map}
 use lib.ListN.{length, drop, getD}
 use lib.Dec.{eqb, ltb, leb}
-use Rattle.meaning.specs.Types.{Ty, same, bits, width, size, padded, isUnit, isSum, isProd}
+use Rattle.meaning.specs.Types.{Ty, same, bits, width, size, padded, leastLength, isUnit, isSum, isProd}
 use Rattle.meaning.specs.Groups.{group, groupSize}
 use Rattle.meaning.specs.Tables.{Columns, Table, kind, left, right, tyAt, classOf, digit, NodeFacts, factsAt, countRight, columnsReach, groupsReach, firstBadEntry}
 use Rattle.meaning.specs.Files.{Reading, faulty, found, Entry, tableIn, columnsOf}
@@ -22,7 +22,7 @@ use Rattle.meaning.specs.Ladder.{Answer, Rung, rung, ladder, kept, typeA
 
 -- The group of a node, by its tree.
 unfoldable pub groupOf : Columns → ℕ → List ℕ
-groupOf c n = group (width (tyAt c n)) (size (tyAt c n)) (digit (padded (tyAt c n))) (classOf c n)
+groupOf c n = group (width (tyAt c n)) (size (tyAt c n)) (digit (padded (tyAt c n))) (classOf c n) (leastLength (tyAt c n))
 
 -- The groups of the first n nodes.
 unfoldable pub groupsOf : Columns → ℕ → List ℕ

@@ -7,6 +7,7 @@
 --   bits                        its true width, in bits
 --   top stop                    the end of the 64-bit numbers, and an addition that stops there
 --   width size padded           its facts
+--   fewest leastLength          its true least compact length, and as a fact: document 02, K1
 use Prim.Native.Nat.{ℕ, zero, suc, _+_, _-_, _^_, min, max}
 use mathlib.Core.Bool.{Bool, true, false, not, _&&_, _||_}
 use lib.Dec.{eqb}
@@ -90,3 +91,15 @@ unfoldable pub padded : Ty → Bool
 padded unit = false
 padded (sum a b) = padded a || padded b || not (eqb (width a) (width b))
 padded (prod a b) = padded a || padded b
+
+-- The true least compact length: no bit for unit, one more than the smaller side for a sum, both sides for a product.
+unfoldable pub fewest : Ty → ℕ
+fewest unit = 0
+fewest (sum a b) = 1 + min (fewest a) (fewest b)
+fewest (prod a b) = fewest a + fewest b
+
+-- The least compact length as a 64-bit fact: each addition stops at the end by itself.
+unfoldable pub leastLength : Ty → ℕ
+leastLength unit = 0
+leastLength (sum a b) = stop 1 (min (leastLength a) (leastLength b))
+leastLength (prod a b) = stop (leastLength a) (leastLength b)

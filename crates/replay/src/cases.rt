@@ -1,5 +1,7 @@
 // One case: its call is made, and all that it leaves is compared with what the case expects.
 use lists::Expected;
+use lists::MOST_GROUPS_BYTES;
+use lists::MOST_VALUES;
 use lists::Request;
 use lists::expected_at;
 use lists::past;
@@ -25,11 +27,11 @@ fn call_agrees(
     kinds: &[u8; 1024],
     lefts: &[u16; 1024],
     rights: &[u16; 1024],
-    groups: &[u8; 19456],
+    groups: &[u8; MOST_GROUPS_BYTES],
     count: usize,
     q: Request,
     e: Expected,
-    wanted: &[u64; 7],
+    wanted: &[u64; MOST_VALUES],
 ) -> bool
     requires { ⌜ Lent (length (now list)) q ⌝ }
     requires { ⌜ Within (length (now list)) (e .out) ⌝ }
@@ -85,11 +87,11 @@ pub(crate) fn replay_case(
     kinds: &[u8; 1024],
     lefts: &[u16; 1024],
     rights: &[u16; 1024],
-    groups: &[u8; 19456],
+    groups: &[u8; MOST_GROUPS_BYTES],
     count: usize,
 ) -> Replayed {
     let q = request_at(list, at);
-    let mut wanted = [BEFORE; 7];
+    let mut wanted = [BEFORE; MOST_VALUES];
     let e = expected_at(list, q.next, &mut wanted);
     let next = e.next;
     if next > list.len() {

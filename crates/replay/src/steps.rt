@@ -1,5 +1,6 @@
 // One step through a list: the next table is read, or the next case is replayed.
 use crate::cases::replay_case;
+use lists::MOST_GROUPS_BYTES;
 use lists::byte_at;
 use lists::past;
 use lists::run_at;
@@ -24,7 +25,7 @@ fn read_table(
     kinds: &mut [u8; 1024],
     lefts: &mut [u16; 1024],
     rights: &mut [u16; 1024],
-    groups: &mut [u8; 19456],
+    groups: &mut [u8; MOST_GROUPS_BYTES],
 ) -> Step
     ensures { λ r. ⌜ r .call ≤ 50 ⌝ }
 {
@@ -57,7 +58,7 @@ pub fn take_step(
     kinds: &mut [u8; 1024],
     lefts: &mut [u16; 1024],
     rights: &mut [u16; 1024],
-    groups: &mut [u8; 19456],
+    groups: &mut [u8; MOST_GROUPS_BYTES],
 ) -> Step
     ensures { λ r. ⌜ r .call ≤ 50 ⌝ }
 {

@@ -9,6 +9,7 @@ mod words;
 
 use crate::ask::ask;
 use lists::Expected;
+use lists::MOST_VALUES;
 use lists::Request;
 use replay_parts::BEFORE;
 use replay_parts::as_expected;
@@ -27,7 +28,7 @@ pub fn outputs_agree(
     count: usize,
     q: Request,
     e: Expected,
-    wanted: &[u64; 7],
+    wanted: &[u64; MOST_VALUES],
 ) -> bool
     requires { ⌜ Lent (length (now list)) q ⌝ }
     requires { ⌜ Within (length (now list)) (e .out) ⌝ }
@@ -49,7 +50,7 @@ pub fn outputs_agree(
         &mut value,
         &mut out,
     );
-    let values = [BEFORE; 7];
+    let values = [BEFORE; MOST_VALUES];
     as_expected(
         list,
         e,

@@ -1,8 +1,13 @@
-// The columns and the groups of a table against the nodes that a case expects: 24 bytes a node, one node after the other, each number with its
-// highest byte first: kind, left, right, then width, size, padded and class, which a group has with their lowest byte first.
+// The columns and the groups of a table against the nodes that a case expects: 32 bytes a node, one node after the other, each number with its
+// highest byte first: kind, left, right, then width, size, padded, class and least length, which a group has with their lowest byte first.
+use lists::GROUP_BYTES;
+use lists::MOST_GROUPS_BYTES;
 use lists::highest_first;
 ghost use Prim.Native.Nat.{_+_, _≤_};
 ghost use lib.ListN.{length};
+
+// How many bytes a case has for a node: its entry and its facts.
+const NODE_BYTES: usize = 5 + GROUP_BYTES;
 
 // Whether n bytes are the same in the opposite order.
 fn turned(nodes: &[u8], at: usize, groups: &[u8], from: usize, n: usize) -> bool
@@ -21,8 +26,8 @@ fn turned(nodes: &[u8], at: usize, groups: &[u8], from: usize, n: usize) -> bool
 
 // Whether the facts in the group at a byte are the expected ones.
 fn same_group(nodes: &[u8], at: usize, groups: &[u8], from: usize) -> bool
-    requires { ⌜ at + 19 ≤ length (now nodes) ⌝ }
-    requires { ⌜ from + 19 ≤ length (now groups) ⌝ }
+    requires { ⌜ at + 27 ≤ length (now nodes) ⌝ }
+    requires { ⌜ from + 27 ≤ length (now groups) ⌝ }
 {
     if !turned(nodes, at, groups, from, 8) {
         return false;
@@ -33,7 +38,10 @@ fn same_group(nodes: &[u8], at: usize, groups: &[u8], from: usize) -> bool
     if !turned(nodes, at + 16, groups, from + 16, 1) {
         return false;
     }
-    turned(nodes, at + 17, groups, from + 17, 2)
+    if !turned(nodes, at + 17, groups, from + 17, 2) {
+        return false;
+    }
+    turned(nodes, at + 19, groups, from + 19, 8)
 }
 
 // Whether the entry at a position is the expected one.
@@ -55,21 +63,21 @@ pub fn same_nodes(
     kinds: &[u8; 1024],
     lefts: &[u16; 1024],
     rights: &[u16; 1024],
-    groups: &[u8; 19456],
+    groups: &[u8; MOST_GROUPS_BYTES],
     count: usize,
 ) -> bool {
     if count > 1024 {
         return false;
     }
-    if nodes.len() != 24 * count {
+    if nodes.len() != NODE_BYTES * count {
         return false;
     }
     let mut k = 0;
     while k < count {
-        if !same_entry(nodes, 24 * k, kinds[k], lefts[k], rights[k]) {
+        if !same_entry(nodes, NODE_BYTES * k, kinds[k], lefts[k], rights[k]) {
             return false;
         }
-        if !same_group(nodes, 24 * k + 5, groups, 19 * k) {
+        if !same_group(nodes, NODE_BYTES * k + 5, groups, GROUP_BYTES * k) {
             return false;
         }
         k += 1;

@@ -3,6 +3,7 @@ mod columns;
 
 pub use columns::same_nodes;
 use lists::Expected;
+use lists::MOST_VALUES;
 use lists::Run;
 use lists::same_bytes;
 ghost use Prim.Native.Nat.{_≤_};
@@ -21,8 +22,13 @@ pub fn run_bytes(list: &[u8], run: Run) -> &[u8]
     &list[from..to]
 }
 
-// Whether the lent values, a single one and seven, hold what is expected. `wanted` is as before the call from the expected count on.
-pub fn same_values(count: usize, wanted: &[u64; 7], value: u64, values: &[u64; 7]) -> bool {
+// Whether the lent values, a single one and a list of them, hold what is expected. `wanted` is as before the call from the expected count on.
+pub fn same_values(
+    count: usize,
+    wanted: &[u64; MOST_VALUES],
+    value: u64,
+    values: &[u64; MOST_VALUES],
+) -> bool {
     if count == 1 {
         return value == wanted[0];
     }
@@ -30,7 +36,7 @@ pub fn same_values(count: usize, wanted: &[u64; 7], value: u64, values: &[u64; 7
         return false;
     }
     let mut i = 0;
-    while i < 7 {
+    while i < MOST_VALUES {
         if values[i] != wanted[i] {
             return false;
         }
@@ -51,11 +57,11 @@ fn same_run(list: &[u8], run: Run, out: &[u8], room: usize) -> bool
 pub fn as_expected(
     list: &[u8],
     e: Expected,
-    wanted: &[u64; 7],
+    wanted: &[u64; MOST_VALUES],
     code: u64,
     position: u64,
     value: u64,
-    values: &[u64; 7],
+    values: &[u64; MOST_VALUES],
     out: &[u8],
     room: usize,
 ) -> bool

@@ -9,6 +9,7 @@ mod word_types;
 
 use crate::ask::ask;
 use lists::Expected;
+use lists::MOST_VALUES;
 use lists::Request;
 use replay_parts::BEFORE;
 use replay_parts::as_expected;
@@ -28,14 +29,14 @@ pub fn values_agree(
     count: usize,
     q: Request,
     e: Expected,
-    wanted: &[u64; 7],
+    wanted: &[u64; MOST_VALUES],
 ) -> bool
     requires { ⌜ Lent (length (now list)) q ⌝ }
     requires { ⌜ Within (length (now list)) (e .out) ⌝ }
     requires { ⌜ q .room ≤ 512 ⌝ }
 {
     let mut value = BEFORE;
-    let mut values = [BEFORE; 7];
+    let mut values = [BEFORE; MOST_VALUES];
     let code = ask(
         list,
         call,

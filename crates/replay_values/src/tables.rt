@@ -1,5 +1,7 @@
 // Tables: from a file, from entries, and the check, calls 0 to 2 of include/CALLS.md.
 use lists::Expected;
+use lists::MOST_GROUPS_BYTES;
+use lists::MOST_VALUES;
 use lists::Request;
 use replay_parts::BEFORE;
 use replay_parts::as_expected;
@@ -19,13 +21,13 @@ fn written(code: u64, count: u64) -> usize {
 }
 
 // Call 0: a table's file, read into columns of 1,024 entries and as many groups.
-fn read_agrees(file: &[u8], nodes: &[u8], e: Expected, wanted: &[u64; 7]) -> bool {
+fn read_agrees(file: &[u8], nodes: &[u8], e: Expected, wanted: &[u64; MOST_VALUES]) -> bool {
     let mut kinds = [0xEEu8; 1024];
     let mut lefts = [0xEEEEu16; 1024];
     let mut rights = [0xEEEEu16; 1024];
-    let mut groups = [0xEEu8; 19456];
+    let mut groups = [0xEEu8; MOST_GROUPS_BYTES];
     let mut count = BEFORE;
-    let values = [BEFORE; 7];
+    let values = [BEFORE; MOST_VALUES];
     let code = exports::qv_read_table(
         file,
         &mut kinds,
@@ -59,7 +61,7 @@ fn fill_agrees(
     nodes: &[u8],
     e: Expected,
 ) -> bool {
-    let mut groups = [0xEEu8; 19456];
+    let mut groups = [0xEEu8; MOST_GROUPS_BYTES];
     let code = exports::qv_fill_facts(kinds, lefts, rights, count, &mut groups);
     if code != e.code {
         return false;
@@ -87,13 +89,13 @@ fn check_agrees(
     count: usize,
     q: Request,
     e: Expected,
-    wanted: &[u64; 7],
+    wanted: &[u64; MOST_VALUES],
 ) -> bool
     requires { ⌜ Within (length (now list)) (e .out) ⌝ }
     requires { ⌜ q .room ≤ 512 ⌝ }
 {
     let code = exports::qv_check_table(kinds, lefts, rights, groups, count);
-    let values = [BEFORE; 7];
+    let values = [BEFORE; MOST_VALUES];
     let out = [0xEEu8; 512];
     as_expected(
         list,
@@ -115,11 +117,11 @@ pub fn tables_agree(
     kinds: &[u8; 1024],
     lefts: &[u16; 1024],
     rights: &[u16; 1024],
-    groups: &[u8; 19456],
+    groups: &[u8; MOST_GROUPS_BYTES],
     count: usize,
     q: Request,
     e: Expected,
-    wanted: &[u64; 7],
+    wanted: &[u64; MOST_VALUES],
 ) -> bool
     requires { ⌜ Lent (length (now list)) q ⌝ }
     requires { ⌜ Within (length (now list)) (e .out) ⌝ }

@@ -5,7 +5,7 @@ use libc::STDOUT_FILENO;
 fn report_of(fd: i32) {
     let mut file = [0u8; 5123];
     let n = io::read_full(fd, &mut file);
-    let mut out = [0u8; 98336];
+    let mut out = [0u8; reports::REPORT_BYTES];
     let filled = reports::report_file(&file[..n], &mut out);
     io::write_all(STDOUT_FILENO, &out[..filled]);
 }

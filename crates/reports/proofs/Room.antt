@@ -27,12 +27,12 @@ abbrev pub zeroColumns : Columns
 zeroColumns = columns zs zs zs
 
 abbrev pub zeroGroups : List ℕ
-zeroGroups = replicate 19456 0
+zeroGroups = replicate (groupSize * 1024) 0
 
 fits : (n : ℕ) → n ≤ 1024 → (columnsReach zeroColumns n && leb (groupSize * n) (length zeroGroups)) ≡ true
 fits n h =
     let k = length-replicate {A = ℕ} 1024 0 in
-    let g = length-replicate {A = ℕ} 19456 0 in
+    let g = length-replicate {A = ℕ} (groupSize * 1024) 0 in
     rw (le-leb n (length zs) (omega arith), le-leb (groupSize * n) (length zeroGroups) (omega arith))
 
 -- What is read decides alone.

@@ -2,6 +2,7 @@
 // that differs, then for each call how many of its cases were replayed and how many of them differed, and the sums. The form of a list stands at
 // the head of oracle/src/bin/record.rs.
 use libc::STDOUT_FILENO;
+use lists::MOST_GROUPS_BYTES;
 use samples_names::print_name;
 ghost use Prim.Native.Nat.{_≤_};
 
@@ -59,7 +60,7 @@ fn replay_list(list: &[u8]) {
     let mut kinds = [0u8; 1024];
     let mut lefts = [0u16; 1024];
     let mut rights = [0u16; 1024];
-    let mut groups = [0u8; 19456];
+    let mut groups = [0u8; MOST_GROUPS_BYTES];
     let mut count = 0;
     let mut replayed = [0u64; 256];
     let mut differing = [0u64; 256];

@@ -51,6 +51,7 @@ filled-sound c n g some h =
       sizes-reach = omega (arith, length-fact 8 8 (groupsWritten c n g));
       paddeds-reach = omega (arith, length-fact 16 1 (groupsWritten c n g));
       classes-reach = omega (arith, length-fact 17 2 (groupsWritten c n g));
+      leasts-reach = omega (arith, length-fact 19 8 (groupsWritten c n g));
       entries = h .entries;
       told = λ k b. written-right c n g k b few;
     }

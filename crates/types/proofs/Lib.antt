@@ -1,3 +1,2 @@
 -- Laws of the questions about types.
-pub mod Told
 pub mod Types

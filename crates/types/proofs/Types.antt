@@ -22,7 +22,7 @@ use Rattle.meaning.proofs.Sounds.{sound-tree, sound-kind, sound-width}
 use Rattle.checked.specs.Passed.{Present}
 use Rattle.checked.proofs.Passed.{asked-passed}
 use Rattle.checked_present.proofs.Asking.{judged, answered, asks-swapped}
-use Rattle.types.proofs.Told.{OwnFacts, own-facts, told-pass, told-answered}
+use Rattle.checked.proofs.Told.{OwnFacts, own-facts, told-pass, told-answered}
 
 -- The kinds.
 is-unit : (k : ℕ) (a b : Ty) → eqb k 0 ≡ isUnit (node k a b)

@@ -12,7 +12,7 @@ use mir.Val.{Fits}
 use mir.Syntax.{w64}
 use Rattle.meaning.specs.Tables.{Table, NodeFacts, kind, left, right, factsAt}
 use Rattle.meaning.specs.Checked.{Sound}
-use Rattle.meaning.proofs.Sounds.{sound-width, sound-size, sound-padded, sound-class}
+use Rattle.meaning.proofs.Sounds.{sound-width, sound-size, sound-padded, sound-class, sound-least}
 
 -- Everything that the table that is handed in says of a node.
 abbrev pub factsSaid : Table → ℕ → NodeFacts
@@ -25,12 +25,13 @@ factsSaid t n =
       kindOf = kind (t .columns) n;
       leftNode = left (t .columns) n;
       rightNode = right (t .columns) n;
+      leastOf = getD (t .facts .leasts) n 0;
     }
 
-pub told-read : (t : Table) (n : ℕ) {w z p k : ℕ} → w ≡ getD (t .facts .widths) n 0 → z ≡ getD (t .facts .sizes) n 0 → p ≡ getD (t .facts .paddeds) n 0
-    → k ≡ getD (t .facts .classes) n 0
-    → record { widthOf = w; sizeOf = z; paddedOf = eqb p 1; classNo = k; kindOf = kind (t .columns) n; leftNode = left (t .columns) n; rightNode = right (t .columns) n } ≡ factsSaid t n
-told-read t n e f g h =
+pub told-read : (t : Table) (n : ℕ) {w z p k l : ℕ} → w ≡ getD (t .facts .widths) n 0 → z ≡ getD (t .facts .sizes) n 0 → p ≡ getD (t .facts .paddeds) n 0
+    → k ≡ getD (t .facts .classes) n 0 → l ≡ getD (t .facts .leasts) n 0
+    → record { widthOf = w; sizeOf = z; paddedOf = eqb p 1; classNo = k; kindOf = kind (t .columns) n; leftNode = left (t .columns) n; rightNode = right (t .columns) n; leastOf = l } ≡ factsSaid t n
+told-read t n e f g h j =
     λ i.
     record {
       widthOf = e i;
@@ -40,6 +41,7 @@ told-read t n e f g h =
       kindOf = kind (t .columns) n;
       leftNode = left (t .columns) n;
       rightNode = right (t .columns) n;
+      leastOf = j i;
     }
 
 module _ (t : Table) (s : Sound t) (n : ℕ) (h : n < t .count) where
@@ -57,4 +59,5 @@ module _ (t : Table) (s : Sound t) (n : ℕ) (h : n < t .count) where
         kindOf = kind (t .columns) n;
         leftNode = left (t .columns) n;
         rightNode = right (t .columns) n;
+        leastOf = sound-least t s n h i;
       }

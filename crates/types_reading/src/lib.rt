@@ -30,6 +30,7 @@ pub fn facts(
         kind: kinds[node],
         left: lefts[node] as usize,
         right: rights[node] as usize,
+        least: groups::least_at(groups, node),
     }
 }
 

@@ -3,8 +3,10 @@
 //!     differential [--quick] [--model-only] [--seed N] [SWEEP...]
 //!
 //! Prints for each call how many comparisons were made and how many differed, then the listed differences that were
-//! met. The exit status is 1 if anything differed beyond the list, or if a call was never compared.
+//! met, then how many types and records were held to least compact lengths. The exit status is 1 if anything differed
+//! beyond the list, or if a whole run never compared a call or a least compact length.
 
+mod lengths;
 mod run;
 mod sweeps;
 
@@ -130,6 +132,16 @@ fn report(run: &Run, asked: &Asked) -> bool {
     println!();
     for listed in Listed::ALL {
         println!("listed: {} ({} times)", listed.title(), run.listed[listed as usize]);
+    }
+    let lengths = &run.lengths;
+    println!(
+        "least compact lengths: {} held to the type's structure, {} records held between least and width, {} types held to \
+         their shortest record",
+        lengths.facts, lengths.records, lengths.reached
+    );
+    if asked.only.is_empty() && [lengths.facts, lengths.records, lengths.reached].contains(&0) {
+        println!("    never compared");
+        sound = false;
     }
     println!("model against definitions: {} faults", run.model_faults);
     println!("compared: {archive} answers of the archive, {text} of the crate's text");

@@ -36,8 +36,8 @@
 //!   | who says so: 0 the rules, 1 the rules and the crate's text, 2 the rules, with a listed difference | one byte |
 //!
 //! Of `read_table` and `fill_facts` (which is about the entries of the table at hand) the expected `out` is, for an
-//! accepted call, the nodes one after the other, 24 bytes each: kind 1, left 2, right 2, width 8, size 8, padded 1,
-//! class 2, the highest byte first. Their columns have 1,024 entries, and their groups are 1,024.
+//! accepted call, the nodes one after the other, 32 bytes each: kind 1, left 2, right 2, width 8, size 8, padded 1,
+//! class 2, least 8, the highest byte first. Their columns have 1,024 entries, and their groups are 1,024.
 
 use oracle::agreement::{judge, Verdict};
 use oracle::library::{Answer, Call, Columns, Library, OwnedColumns, Record, Request, Stream};
@@ -182,6 +182,7 @@ fn expected_out(q: &Request, answer: &Answer) -> Vec<u8> {
         nodes.extend(facts.size.to_be_bytes());
         nodes.push(facts.padded);
         nodes.extend(facts.class.to_be_bytes());
+        nodes.extend(facts.least.to_be_bytes());
     }
     nodes
 }

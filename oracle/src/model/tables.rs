@@ -47,6 +47,7 @@ fn group_of(types: &Types, node: usize) -> Vec<u8> {
     group.extend(types.size(node).to_le_bytes());
     group.push(u8::from(types.padded(node)));
     group.extend((types.class(node) as u16).to_le_bytes());
+    group.extend(types.least(node).to_le_bytes());
     group
 }
 

@@ -16,6 +16,7 @@ pub struct Types {
     sizes: Vec<u64>,
     padded: Vec<bool>,
     classes: Vec<usize>,
+    leasts: Vec<u64>,
     /// `same[i][j]` for j ≤ i: types i and j are the same tree.
     same: Vec<Vec<bool>>,
     /// The n of type i, if it is the word type 2^(2^n).
@@ -48,6 +49,11 @@ impl Types {
         self.classes[node]
     }
 
+    /// The least compact length of a record.
+    pub fn least(&self, node: usize) -> u64 {
+        self.leasts[node]
+    }
+
     /// Whether both are the same tree.
     pub fn same(&self, a: usize, b: usize) -> bool {
         self.same[a.max(b)][a.min(b)]
@@ -60,17 +66,19 @@ impl Types {
 
     /// Adds a type whose sides, if any, are here already.
     pub fn add(&mut self, shape: Shape) {
-        let (width, size, padded) = match shape {
-            Shape::Unit => (0, 1, false),
+        let (width, size, padded, least) = match shape {
+            Shape::Unit => (0, 1, false, 0),
             Shape::Sum(l, r) => (
                 1u64.saturating_add(self.widths[l].max(self.widths[r])),
                 1u64.saturating_add(self.sizes[l]).saturating_add(self.sizes[r]),
                 self.padded[l] || self.padded[r] || self.widths[l] != self.widths[r],
+                1u64.saturating_add(self.leasts[l].min(self.leasts[r])),
             ),
             Shape::Product(l, r) => (
                 self.widths[l].saturating_add(self.widths[r]),
                 1u64.saturating_add(self.sizes[l]).saturating_add(self.sizes[r]),
                 self.padded[l] || self.padded[r],
+                self.leasts[l].saturating_add(self.leasts[r]),
             ),
         };
         let word = match shape {
@@ -89,6 +97,7 @@ impl Types {
         self.padded.push(padded);
         self.words.push(word);
         self.classes.push(class);
+        self.leasts.push(least);
         self.same.push(same);
         self.same.last_mut().expect("just added").push(true);
     }

@@ -130,7 +130,7 @@ impl World {
             node: UNIT,
             other: UNIT,
             value: 0x5A5A_5A5A,
-            values: vec![0x5A5A_5A5A; 8],
+            values: vec![0x5A5A_5A5A; 9],
             out: vec![0x77; 110],
         }
     }
@@ -260,7 +260,7 @@ every_call! {
         |t, i, o| raw::fill_facts(t.kinds, t.lefts, t.rights, t.count, &mut o.table.groups);
     check_table: names Nothing, records 0, values 0, table true, stream false, out false,
         |t, i, o| raw::check_table(t);
-    facts_of: names Type, records 0, values 7, table true, stream false, out false,
+    facts_of: names Type, records 0, values 8, table true, stream false, out false,
         |t, i, o| raw::facts_of(t, i.node, &mut o.values);
     same_type: names TwoTypes, records 0, values 0, table true, stream false, out false,
         |t, i, o| raw::same_type(t, i.node, i.other, &mut o.value);

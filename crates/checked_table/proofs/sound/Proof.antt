@@ -59,6 +59,7 @@ shape c =
       sizes-reach = omega (arith, length-fact 8 8 g);
       paddeds-reach = omega (arith, length-fact 16 1 g);
       classes-reach = omega (arith, length-fact 17 2 g);
+      leasts-reach = omega (arith, length-fact 19 8 g);
     }
 
 first-bad-requires : tie.Need-first-bad-requires

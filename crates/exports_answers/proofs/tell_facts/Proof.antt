@@ -47,8 +47,8 @@ returns c =
     (told .1
     ∙ ap
     (λ (d : ℕ).
-    cond (ltb (length l) 7) l
-    (f .width ∷ f .size ∷ d ∷ f .class ∷ f .kind ∷ f .left ∷ f .right ∷ drop 7 l))
+    cond (ltb (length l) 8) l
+    (f .width ∷ f .size ∷ d ∷ f .class ∷ f .kind ∷ f .left ∷ f .right ∷ f .least ∷ drop 8 l))
     (c .before .before .before .before .before .before .digit-of .ensures))
 
 returns-2 : tie.Need-returns-2

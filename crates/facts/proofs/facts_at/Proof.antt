@@ -95,28 +95,33 @@ class-at-requires c κs =
     (getD (x .heads .now) (c .before .before .before .before .slot-of .result) 0) (sx .class-is) (sy .class-is)
     (ap (λ (i : ℕ). getD (x .heads .now) i 0) (c .before .before .before .before .slot-of .ensures))
 
+least-by-requires : tie.Need-least-by-requires
+least-by-requires c κs = search needs
+
 returns-2 : tie.Need-returns-2
 returns-2 c =
-    let s = c .before .before .before .before .before .before .before .before .before .before .before .before .before .before .before .before in
+    let s = c .before .before .before .before .before .before .before .before .before .before .before .before .before .before .before .before .before in
     let x = s .args in
-    let ne = c .before .before .before .before .before .before .before .before .before .before .if1 .left in
-    let sx = c .before .before .before .before .before .before .before .before .side-at .ensures (cols s) (left-facts (cols s) (x .groups .now) (x .heads .now) (x .links .now) (x .n) (s .pre) ne) in
-    let sy = c .before .before .before .before .before .before .side-at2 .ensures (cols s) (right-facts (cols s) (x .groups .now) (x .heads .now) (x .links .now) (x .n) (s .pre) ne) in
-    node-derived (cols s) (x .groups .now) (x .heads .now) (x .links .now) (x .n) (s .pre) ne (c .before .before .before .before .before .before .before .before .side-at .result) (c .before .before .before .before .before .before .side-at2 .result)
+    let ne = c .before .before .before .before .before .before .before .before .before .before .before .if1 .left in
+    let sx = c .before .before .before .before .before .before .before .before .before .side-at .ensures (cols s) (left-facts (cols s) (x .groups .now) (x .heads .now) (x .links .now) (x .n) (s .pre) ne) in
+    let sy = c .before .before .before .before .before .before .before .side-at2 .ensures (cols s) (right-facts (cols s) (x .groups .now) (x .heads .now) (x .links .now) (x .n) (s .pre) ne) in
+    node-derived (cols s) (x .groups .now) (x .heads .now) (x .links .now) (x .n) (s .pre) ne (c .before .before .before .before .before .before .before .before .before .side-at .result) (c .before .before .before .before .before .before .before .side-at2 .result)
     (record {
-      width = c .before .before .before .width-by .result;
-      size = c .before .before .size-by .result;
-      padded = c .before .padded-by .result;
-      class = c .class-at .result;
-      slot = c .before .before .before .before .before .slot-of .result;
+      width = c .before .before .before .before .width-by .result;
+      size = c .before .before .before .size-by .result;
+      padded = c .before .before .padded-by .result;
+      class = c .before .class-at .result;
+      least = c .least-by .result;
+      slot = c .before .before .before .before .before .before .slot-of .result;
     })
     sx
     sy
-    (c .before .before .before .width-by .ensures)
-    (c .before .before .size-by .ensures)
-    (c .before .padded-by .ensures)
-    (c .class-at .ensures)
-    (c .before .before .before .before .before .slot-of .ensures)
+    (c .before .before .before .before .width-by .ensures)
+    (c .before .before .before .size-by .ensures)
+    (c .before .before .padded-by .ensures)
+    (c .before .class-at .ensures)
+    (c .least-by .ensures)
+    (c .before .before .before .before .before .before .slot-of .ensures)
 
 pub facts-at-spec : {M : Type 1} → statement M
 facts-at-spec =
@@ -140,4 +145,5 @@ facts-at-spec =
     size-by-requires
     padded-by-requires
     class-at-requires
+    least-by-requires
     returns-2)

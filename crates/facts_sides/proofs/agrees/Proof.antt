@@ -14,7 +14,7 @@ use Rattle.facts_sides.proofs.agrees.Tie as tie
 abbrev held : tie.Start → Facts
 held s = factsIn (s .args .groups .now)
 
--- Where it began, from each of the first three reads.
+-- Where it began, from each of the first four reads.
 abbrev start1 : tie.After-width-at → tie.Start
 start1 c = c .before .before
 
@@ -23,6 +23,9 @@ start2 c = start1 (c .before .before .before)
 
 abbrev start3 : tie.After-padded-at → tie.Start
 start3 c = start2 (c .before .before .before)
+
+abbrev start4 : tie.After-class-at → tie.Start
+start4 c = start3 (c .before .before .before)
 
 -- The tests that passed.
 same-width : (c : tie.Else1) → let s = start1 (c .before .before) in eqb (getD (held s .widths) (s .args .n) 0) (s .args .f .width) ≡ true
@@ -39,6 +42,11 @@ same-padded : (c : tie.Else3) → let s = start3 (c .before .before) in eqb (get
 same-padded c =
     let s = start3 (c .before .before) in
     eq-eqb (getD (held s .paddeds) (s .args .n) 0) (s .args .f .padded) (sym (c .before .before .padded-at .ensures) ∙ c .if3 .left)
+
+same-class : (c : tie.Else4) → let s = start4 (c .before .before) in eqb (getD (held s .classes) (s .args .n) 0) (s .args .f .class) ≡ true
+same-class c =
+    let s = start4 (c .before .before) in
+    eq-eqb (getD (held s .classes) (s .args .n) 0) (s .args .f .class) (sym (c .before .before .class-at .ensures) ∙ c .if4 .left)
 
 width-at-requires : tie.Need-width-at-requires
 width-at-requires c κs = search needs
@@ -83,20 +91,37 @@ returns-3 c =
 class-at-requires : tie.Need-class-at-requires
 class-at-requires c κs = search needs
 
-cast-result : tie.Need-cast-result
-cast-result c = search needs
+cast-if4 : tie.Need-cast-if4
+cast-if4 c = search needs
 
 returns-4 : tie.Need-returns-4
 returns-4 c =
-    let third = c .before .before in
-    let s = start3 (third .before .before) in
+    let s = start4 (c .before .before) in
     let x = s .args in
-    let e : eqb (c .before .class-at .result) (x .f .class) ≡ alike (held s) (x .n) (x .f) =
+    let e : false ≡ alike (held s) (x .n) (x .f) =
     simp (
-      c .before .class-at .ensures,
-      same-width (third .before .before .before .before .before .before),
-      same-size (third .before .before .before),
-      same-padded third,
+      same-width (c .before .before .before .before .before .before .before .before .before),
+      same-size (c .before .before .before .before .before .before),
+      same-padded (c .before .before .before),
+      ne-eqb (getD (held s .classes) (x .n) 0) (x .f .class) (λ q. c .if4 .taken (c .before .before .class-at .ensures ∙ q)),
+    ) in
+    λ t derived. e ∙ alike-right t (held s) (x .n) (x .f) derived
+
+least-at-requires : tie.Need-least-at-requires
+least-at-requires c κs = search needs
+
+returns-5 : tie.Need-returns-5
+returns-5 c =
+    let fourth = c .before .before in
+    let s = start4 (fourth .before .before) in
+    let x = s .args in
+    let e : eqb (c .before .least-at .result) (x .f .least) ≡ alike (held s) (x .n) (x .f) =
+    simp (
+      c .before .least-at .ensures,
+      same-width (fourth .before .before .before .before .before .before .before .before .before),
+      same-size (fourth .before .before .before .before .before .before),
+      same-padded (fourth .before .before .before),
+      same-class fourth,
     ) in
     λ t derived. e ∙ alike-right t (held s) (x .n) (x .f) derived
 
@@ -111,5 +136,7 @@ agrees-spec =
     padded-at-requires
     returns-3
     class-at-requires
-    cast-result
-    returns-4)
+    cast-if4
+    returns-4
+    least-at-requires
+    returns-5)

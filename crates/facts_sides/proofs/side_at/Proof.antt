@@ -2,7 +2,7 @@
 use mathlib.Core.Path.{_∙_}
 use borrow.Author.Needs.{needs}
 use Rattle.meaning.specs.Tables.{factsIn}
-use Rattle.facts_sides.proofs.Agreeing.{facts-width, facts-size, facts-padded, facts-class}
+use Rattle.meaning.proofs.GroupLaws.{right-holds}
 use Rattle.facts_sides.proofs.side_at.Statement.{statement}
 use Rattle.facts_sides.proofs.side_at.Tie as tie
 
@@ -18,19 +18,24 @@ padded-at-requires c κs = search needs
 class-at-requires : tie.Need-class-at-requires
 class-at-requires c κs = search needs
 
+least-at-requires : tie.Need-least-at-requires
+least-at-requires c κs = search needs
+
 returns : tie.Need-returns
 returns c =
-    let x = c .before .before .before .before .before .args in
+    let x = c .before .before .before .before .before .before .args in
     let f = factsIn (x .groups .now) in
     λ t h.
+    let held = right-holds t f (x .k) h in
     record {
-      width-is = c .before .before .before .width-at .ensures ∙ facts-width t f (x .k) h;
-      size-is = c .before .before .size-at .ensures ∙ facts-size t f (x .k) h;
-      padded-is = c .before .padded-at .ensures ∙ facts-padded t f (x .k) h;
-      class-is = c .class-at .ensures ∙ facts-class t f (x .k) h;
+      width-is = c .before .before .before .before .width-at .ensures ∙ held .width-held;
+      size-is = c .before .before .before .size-at .ensures ∙ held .size-held;
+      padded-is = c .before .before .padded-at .ensures ∙ held .padded-held;
+      class-is = c .before .class-at .ensures ∙ held .class-held;
+      least-is = c .least-at .ensures ∙ held .least-held;
     }
 
 pub side-at-spec : {M : Type 1} → statement M
 side-at-spec =
     tie.close
-    (tie.spec width-at-requires size-at-requires padded-at-requires class-at-requires returns)
+    (tie.spec width-at-requires size-at-requires padded-at-requires class-at-requires least-at-requires returns)

@@ -4,6 +4,7 @@ use native.Mathlib.Omega.{arith}
 use mathlib.Core.Path.{_≡_, sym, ap, _∙_}
 use Prim.Native.Nat.{ℕ, _+_, _*_, _≤_}
 use lib.ListN.{length}
+use Rattle.meaning.specs.Groups.{groupSize}
 use Rattle.meaning.proofs.Groups.{fact-at}
 use Rattle.groups.proofs.Lows.{low-one}
 use Rattle.groups.proofs.padded_at.Statement.{statement}
@@ -23,8 +24,8 @@ returns c =
     let b = c .before in
     let n = b .args .n in
     let g = b .args .groups .now in
-    let h : 19 * n + 16 + 1 ≤ length g = omega arith in
-    sym (fact-at 16 1 n g (b .pre) ∙ low-one (19 * n + 16) g h)
+    let h : groupSize * n + 16 + 1 ≤ length g = omega arith in
+    sym (fact-at 16 1 n g (b .pre) ∙ low-one (groupSize * n + 16) g h)
 
 pub padded-at-spec : {M : Type 1} → statement M
 padded-at-spec = tie.close (tie.spec mul-result add-result shared-slice-read-result returns)

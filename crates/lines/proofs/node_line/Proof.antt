@@ -1,4 +1,4 @@
--- `lines::node_line` meets its contract: five numbers and the word of the kind, one after the other. Assumes nothing.
+-- `lines::node_line` meets its contract: six numbers and the word of the kind, one after the other. Assumes nothing.
 use Prim.Native.Nat.{ℕ, _+_, _≤_}
 use mathlib.Core.List.{List}
 use native.Mathlib.Omega.{arith}
@@ -6,6 +6,7 @@ use lib.ListN.{length}
 use borrow.Author.Needs.{needs}
 use Rattle.lines_digits.proofs.Decimals.{number-room, byte-room, kind-room}
 use Rattle.lines_digits.proofs.Puts.{wrote-short, wrote-within}
+use Rattle.lines.specs.Room.{lineRoom}
 use Rattle.lines.proofs.node_line.Statement.{statement}
 use Rattle.lines.proofs.node_line.Tie as tie
 
@@ -25,9 +26,12 @@ from-size p = from-width (p .before .before .before .before)
 abbrev from-padded : tie.After-put-number4 → tie.Start
 from-padded p = from-size (p .before .before .before .before)
 
+abbrev from-class : tie.After-put-number5 → tie.Start
+from-class p = from-padded (p .before .before .before .before)
+
 -- After each call the line has come so far, and there is room for the rest.
 abbrev Room : tie.Start → ℕ → ℕ → List ℕ → Type 0
-Room s used next out = (next ≤ s .args .at + used) × (s .args .at + 96 ≤ length out)
+Room s used next out = (next ≤ s .args .at + used) × (s .args .at + lineRoom ≤ length out)
 
 room-k : (p : tie.After-put-number) → Room (from-k p) 21 (p .put-number .result) (p .put-number .last .0)
 room-k p =
@@ -60,6 +64,12 @@ room-padded p =
     let w = p .put-number4 in
     (let e = wrote-within (w .ensures) (byte-room _ _ (s .fits .padded .fits)) in omega arith, omega (arith, r .1, w .kept .0))
 
+room-class : (p : tie.After-put-number5) → Room (from-class p) 96 (p .put-number5 .result) (p .put-number5 .last .0)
+room-class p =
+    let r = room-padded (p .before .before .before .before) in
+    let w = p .put-number5 in
+    (let e = wrote-within (w .ensures) (number-room _ _) in omega arith, omega (arith, r .1, w .kept .0))
+
 put-number-requires : tie.Need-put-number-requires
 put-number-requires c κs = search needs
 
@@ -78,12 +88,16 @@ put-number-requires-4 c κs = let r = room-size (c .before .before .before) in o
 put-number-requires-5 : tie.Need-put-number-requires-5
 put-number-requires-5 c κs = let r = room-padded (c .before .before .before) in omega arith
 
+put-number-requires-6 : tie.Need-put-number-requires-6
+put-number-requires-6 c κs = let r = room-class (c .before .before .before) in omega arith
+
 same-length : tie.Need-same-length
 same-length c = search needs
 
 returns : tie.Need-returns
 returns c =
-    let class = c .before .before in
+    let least = c .before .before in
+    let class = least .before .before .before .before in
     let padded = class .before .before .before .before in
     let size = padded .before .before .before .before in
     let width = size .before .before .before .before in
@@ -95,7 +109,8 @@ returns c =
     (wrote-short (width .put-number2 .ensures) (number-room _ _) (let r = room-kind kind in omega arith)
     (wrote-short (size .put-number3 .ensures) (number-room _ _) (let r = room-width width in omega arith)
     (wrote-short (padded .put-number4 .ensures) (number-room _ _) (let r = room-size size in omega arith)
-    (class .put-number5 .ensures)))))
+    (wrote-short (class .put-number5 .ensures) (number-room _ _) (let r = room-padded padded in omega arith)
+    (least .put-number6 .ensures))))))
 
 pub node-line-spec : {M : Type 1} → statement M
 node-line-spec =
@@ -107,5 +122,6 @@ node-line-spec =
     put-number-requires-3
     put-number-requires-4
     put-number-requires-5
+    put-number-requires-6
     same-length
     returns)

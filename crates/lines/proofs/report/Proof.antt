@@ -1,5 +1,5 @@
--- `lines::report` meets its contract. The loop's invariant: after the first line stand the lines of the first k nodes, each of at most 96
--- bytes. The measure is how many are left. Assumes nothing.
+-- `lines::report` meets its contract. The loop's invariant: after the first line stand the lines of the first k nodes, each within
+-- its room. The measure is how many are left. Assumes nothing.
 use Prim.Native.Nat.{_+_, _*_, _-_, _≤_, _<_}
 use mathlib.Core.Path.{_≡_, refl, ap, sym, _∙_}
 use mathlib.Core.List.{_++_}
@@ -11,13 +11,14 @@ use Rattle.meaning.specs.Tables.{factsIn}
 use Rattle.lines_digits.specs.Report.{headLine, nodeLine, lineIn, linesTo}
 use Rattle.lines_digits.specs.Buffer.{PutAt}
 use Rattle.lines_digits.proofs.Puts.{wrote-then, wrote-text, wrote-none, printed}
+use Rattle.lines.specs.Room.{headRoom, lineRoom}
 use Rattle.lines.proofs.Lines.{head-room, line-room, lines-more}
 use Rattle.lines.proofs.report.Statement.{statement}
 use Rattle.lines.proofs.report.Tie as tie
 
 abbrev Inv-loop : tie.InvT-loop
 Inv-loop out₀ kinds groups count at₀ k₀ out at k =
-    (k ≤ count) × (at ≤ at₀ + k * 96) × PutAt out₀ at₀ (linesTo (lineIn kinds (factsIn groups)) k) out at × (length out ≡ length out₀)
+    (k ≤ count) × (at ≤ at₀ + k * lineRoom) × PutAt out₀ at₀ (linesTo (lineIn kinds (factsIn groups)) k) out at × (length out ≡ length out₀)
 
 abbrev μ-loop : tie.MeasureT-loop
 μ-loop out₀ kinds groups count at₀ k₀ out at k = count - k
@@ -26,14 +27,14 @@ abbrev μ-loop : tie.MeasureT-loop
 abbrev Begin : tie.After-slice-known2 Inv-loop μ-loop → tie.Start Inv-loop μ-loop
 Begin c = c .before .before .before .before .before .before .before
 
-head-end : (c : tie.After-slice-known2 Inv-loop μ-loop) → c .before .before .head-line .result ≤ 32
+head-end : (c : tie.After-slice-known2 Inv-loop μ-loop) → c .before .before .head-line .result ≤ headRoom
 head-end c = omega (arith, c .before .before .head-line .ensures .ends, head-room (Begin c .args .count))
 
 -- The buffer is as long as it was, and has room for the next line.
 same : (l : tie.At-loop Inv-loop μ-loop) → length (l .loop .out) ≡ length (Begin (l .before) .args .out .now)
 same l = l .loop .inv .3 ∙ l .before .before .before .head-line .kept .0
 
-room : (l : tie.At-loop Inv-loop μ-loop) → l .loop .k < Begin (l .before) .args .count → l .loop .at + 96 ≤ length (l .loop .out)
+room : (l : tie.At-loop Inv-loop μ-loop) → l .loop .k < Begin (l .before) .args .count → l .loop .at + lineRoom ≤ length (l .loop .out)
 room l h = omega (arith, l .loop .inv .1, head-end (l .before), same l, Begin (l .before) .pre .room)
 
 head-line-requires : tie.Need-head-line-requires Inv-loop μ-loop
@@ -62,12 +63,15 @@ padded-at-requires c κs = grouped (c .before .before .before .before)
 class-at-requires : tie.Need-class-at-requires Inv-loop μ-loop
 class-at-requires c κs = grouped (c .before .before .before .before .before)
 
--- Where the line of a node began, once its facts are read.
-abbrev begun : tie.After-class-at Inv-loop μ-loop → tie.In-loop Inv-loop μ-loop
-begun r = r .before .before .before .before .before .before
-
 cast-node-line : tie.Need-cast-node-line Inv-loop μ-loop
 cast-node-line c = omega (arith, c .class-at .ok)
+
+least-at-requires : tie.Need-least-at-requires Inv-loop μ-loop
+least-at-requires c κs = grouped (c .before .before .before .before .before .before)
+
+-- Where the line of a node began, once its facts are read.
+abbrev begun : tie.After-least-at Inv-loop μ-loop → tie.In-loop Inv-loop μ-loop
+begun r = r .before .before .before .before .before .before .before
 
 node-line-requires : tie.Need-node-line-requires Inv-loop μ-loop
 node-line-requires c κs = let i = begun c in room (i .before) (i .loop-test .taken)
@@ -89,14 +93,16 @@ loop-again c =
     let a = Begin (l .before) .args in
     let k = l .loop .k in
     let w = l .loop .inv .2 in
-    let class = r .class-at in
-    let padded = r .before .padded-at in
-    let size = r .before .before .size-at in
-    let width = r .before .before .before .width-at in
-    let long = line-room k (getD (a .kinds .now) k 0) (width .result) (size .result) (padded .result) (class .result) (omega (arith, padded .ok)) in
+    let least = r .least-at in
+    let class = r .before .class-at in
+    let padded = r .before .before .padded-at in
+    let size = r .before .before .before .size-at in
+    let width = r .before .before .before .before .width-at in
+    let long =
+    line-room k (getD (a .kinds .now) k 0) (width .result) (size .result) (padded .result) (class .result) (least .result) (omega (arith, padded .ok)) in
     let one = lineIn (a .kinds .now) (factsIn (a .groups .now)) in
-    let same-line : nodeLine k (getD (a .kinds .now) k 0) (width .result) (size .result) (padded .result) (class .result) ≡ one k =
-    λ i. nodeLine k (getD (a .kinds .now) k 0) (width .ensures i) (size .ensures i) (padded .ensures i) (class .ensures i) in (
+    let same-line : nodeLine k (getD (a .kinds .now) k 0) (width .result) (size .result) (padded .result) (class .result) (least .result) ≡ one k =
+    λ i. nodeLine k (getD (a .kinds .now) k 0) (width .ensures i) (size .ensures i) (padded .ensures i) (class .ensures i) (least .ensures i) in (
       omega arith,
       omega (arith, n .node-line .ensures .ends, l .loop .inv .1),
       wrote-text (ap (λ s. linesTo one k ++ s) same-line ∙ sym (lines-more one k))
@@ -132,6 +138,7 @@ report-spec =
     padded-at-requires
     class-at-requires
     cast-node-line
+    least-at-requires
     node-line-requires
     add-k
     loop-less

@@ -1,14 +1,14 @@
--- `replay_parts::same_values` meets its contract: its indices are below seven, and it ends. Assumes nothing.
+-- `replay_parts::same_values` meets its contract: its indices are below the number of values, and it ends. Assumes nothing.
 use borrow.Author.Needs.{needs}
 use Prim.Native.Nat.{_≤_, _-_}
 use Rattle.replay_parts.proofs.same_values.Statement.{statement}
 use Rattle.replay_parts.proofs.same_values.Tie as tie
 
 abbrev Inv-loop : tie.InvT-loop
-Inv-loop count wanted value values i₀ i = i ≤ 7
+Inv-loop count wanted value values i₀ i = i ≤ 8
 
 abbrev μ-loop : tie.MeasureT-loop
-μ-loop count wanted value values i₀ i = 7 - i
+μ-loop count wanted value values i₀ i = 8 - i
 
 element-copy-out-result : tie.Need-element-copy-out-result Inv-loop μ-loop
 element-copy-out-result c = search needs

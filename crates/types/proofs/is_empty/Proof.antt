@@ -7,7 +7,7 @@ use Rattle.meaning.specs.Types.{width}
 use Rattle.meaning.specs.Tables.{Table, table}
 use Rattle.meaning.specs.Ladder.{typeAt}
 use Rattle.answers.specs.Verdicts.{factsOf}
-use Rattle.types.proofs.Told.{told-stop}
+use Rattle.checked.proofs.Told.{told-stop}
 use Rattle.types.proofs.Types.{empty-told}
 use Rattle.types.proofs.is_empty.Statement.{statement}
 use Rattle.types.proofs.is_empty.Tie as tie

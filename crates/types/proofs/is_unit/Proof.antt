@@ -6,7 +6,7 @@ use Rattle.meaning.specs.Types.{isUnit}
 use Rattle.meaning.specs.Tables.{Table, table}
 use Rattle.meaning.specs.Ladder.{typeAt}
 use Rattle.answers.specs.Verdicts.{factsOf}
-use Rattle.types.proofs.Told.{told-stop}
+use Rattle.checked.proofs.Told.{told-stop}
 use Rattle.types.proofs.Types.{unit-told}
 use Rattle.types.proofs.is_unit.Statement.{statement}
 use Rattle.types.proofs.is_unit.Tie as tie

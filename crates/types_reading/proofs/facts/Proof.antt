@@ -67,14 +67,17 @@ shared-slice-read-t21 c =
 cast-t22 : tie.Need-cast-t22
 cast-t22 c = let f = c .shared-slice-known7 .given (entry (c .before .before .before .before .before .before .before) .args .node) in record { fits = omega arith }
 
+least-at-requires : tie.Need-least-at-requires
+least-at-requires c κs = grouped (entry (c .before .before .before .before .before .before .before))
+
 returns : tie.Need-returns
 returns c =
-    let class = c .before .before .before in
+    let class = c .before .before .before .before in
     let padded = class .before in
     let size = padded .before in
     let width = size .before in
     let s = entry (width .before) in
-    told-read (of s) (s .args .node) (width .width-at .ensures) (size .size-at .ensures) (padded .padded-at .ensures) (class .class-at .ensures)
+    told-read (of s) (s .args .node) (width .width-at .ensures) (size .size-at .ensures) (padded .padded-at .ensures) (class .class-at .ensures) (c .least-at .ensures)
     ∙ facts-read (of s) (s .pre .sound) (s .args .node) (s .pre .here)
 
 pub facts-spec : {M : Type 1} → statement M
@@ -93,4 +96,5 @@ facts-spec =
     mul-t19
     shared-slice-read-t21
     cast-t22
+    least-at-requires
     returns)

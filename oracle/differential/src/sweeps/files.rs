@@ -90,22 +90,29 @@ fn columns_of_all_lengths(run: &mut Run, random: &mut Random, maker: &TableMaker
     let file = maker.file();
     let count = maker.count();
     let sound = maker.finish();
+    let mut written_and_read = |change: &dyn Fn(&mut OwnedColumns)| {
+        let mut columns = OwnedColumns::marked(count + 1);
+        change(&mut columns);
+        read(run, &file, &columns);
+        let mut facts = OwnedColumns::marked(count + 1);
+        facts.kinds = sound.kinds.clone();
+        facts.lefts = sound.lefts.clone();
+        facts.rights = sound.rights.clone();
+        facts.count = count as u64;
+        change(&mut facts);
+        run.check_archive(&Request::new(Call::FillFacts, facts.lend()));
+        let mut table = sound.clone();
+        change(&mut table);
+        run.check_archive(&Request::new(Call::CheckTable, table.lend()));
+    };
     for column in 0..4 {
         for length in [0, count - 1, count, count + 1] {
-            let mut columns = OwnedColumns::marked(count + 1);
-            resize(&mut columns, column, length);
-            read(run, &file, &columns);
-            let mut facts = OwnedColumns::marked(count + 1);
-            facts.kinds = sound.kinds.clone();
-            facts.lefts = sound.lefts.clone();
-            facts.rights = sound.rights.clone();
-            facts.count = count as u64;
-            resize(&mut facts, column, length);
-            run.check_archive(&Request::new(Call::FillFacts, facts.lend()));
-            let mut table = sound.clone();
-            resize(&mut table, column, length);
-            run.check_archive(&Request::new(Call::CheckTable, table.lend()));
+            written_and_read(&|columns| resize(columns, column, length));
         }
+    }
+    // Groups one byte short, and one byte longer than they need be.
+    for length in [GROUP_BYTES * count - 1, GROUP_BYTES * count + 1] {
+        written_and_read(&|columns| columns.groups.resize(length, 0));
     }
     for _ in 0..60 {
         let mut table = sound.clone();

@@ -1,5 +1,6 @@
-//! The groups of a table's facts: every byte changed, buffers of every length, rubbish past the count, counts whose
-//! product with a group's size turns over. What each call must answer is said here, beside the model.
+//! The groups of a table's facts: every byte changed, least compact lengths that are another number of the table, buffers
+//! of every length, rubbish past the count, counts whose product with a group's size turns over. What each call must
+//! answer is said here, beside the model.
 
 use super::Size;
 use crate::run::Run;
@@ -11,6 +12,9 @@ fn unsound(node: usize) -> u64 {
     1 + 256 * node as u64
 }
 
+/// The bytes of a group that are the least compact length.
+const LEAST: std::ops::Range<usize> = 19..27;
+
 /// Groups that are written are too short.
 const NO_ROOM: u64 = 9;
 
@@ -18,6 +22,7 @@ pub fn sweep(run: &mut Run, size: &Size) {
     let mut random = size.random(110);
     for maker in makers(&mut random, size) {
         bytes_changed(run, &mut random, &maker);
+        leasts_mistaken(run, &maker);
         buffers_to_read(run, &mut random, &maker);
         buffers_to_write(run, &maker);
         counts_that_turn_over(run, &maker);
@@ -92,6 +97,25 @@ fn bytes_changed(run: &mut Run, random: &mut Random, maker: &TableMaker) {
         for call in calls_with_a_table() {
             let q = Request::new(*call, table.lend());
             expect(run, &q, "a changed byte is 1 at its node", |answer| answer.code == unsound(node));
+        }
+    }
+}
+
+/// A least compact length that is a neighbour of the right one, another fact, or made of the sides in another way: 1 at
+/// its node.
+fn leasts_mistaken(run: &mut Run, maker: &TableMaker) {
+    let sound = maker.finish();
+    for node in 0..maker.count() {
+        let facts = sound.facts(node);
+        let [left, right] = [sound.lefts[node], sound.rights[node]].map(|side| sound.facts(usize::from(side)).least);
+        let (both, larger) = (left.wrapping_add(right), left.max(right));
+        let near = [facts.least.wrapping_add(1), facts.least.wrapping_sub(1), 0, u64::MAX];
+        let others = [facts.width, facts.size, left, right, both, both.wrapping_add(1), larger.wrapping_add(1)];
+        for wrong in near.into_iter().chain(others).filter(|wrong| *wrong != facts.least) {
+            let mut table = sound.clone();
+            table.groups[GROUP_BYTES * node..][LEAST].copy_from_slice(&wrong.to_le_bytes());
+            let q = Request::new(Call::CheckTable, table.lend());
+            expect(run, &q, "a wrong least is 1 at its node", |answer| answer.code == unsound(node));
         }
     }
 }

@@ -156,7 +156,9 @@ fn spoil<'a>(random: &mut Random, q: &mut Request<'a>, table: &mut OwnedColumns,
         13 => q.data = &garbage[..random.below(70) as usize],
         14 => q.buffer = &garbage[..random.below(70) as usize],
         15 => q.out = &q.out[..random.below(q.out.len() as u64 + 1) as usize],
-        16 if q.call.values_are_a_slice() => q.values = &VALUES_BEFORE[..random.below(8) as usize],
+        16 if q.call.values_are_a_slice() => {
+            q.values = &VALUES_BEFORE[..random.below(VALUES_BEFORE.len() as u64) as usize]
+        }
         17 => table.count = around(random, table.kinds.len() as u64, wild),
         18 => shorten(random, table),
         19 | 20 => spoil_entry(random, table),

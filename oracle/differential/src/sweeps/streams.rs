@@ -4,12 +4,13 @@
 use super::{before, bytes_for, placed, Size};
 use crate::run::Run;
 use oracle::library::{Answer, Call, Library, OwnedColumns, Record, Request, Stream};
-use oracle::supply::trees_up_to;
+use oracle::supply::{crossed_trees, trees_up_to};
 
 pub fn sweep(run: &mut Run, size: &Size) {
     let mut random = size.random(40);
     let out = before(8);
-    for (number, tree) in trees_up_to(size.pick(4, 5) as usize).iter().enumerate() {
+    let trees = [trees_up_to(size.pick(4, 5) as usize), crossed_trees()].concat();
+    for (number, tree) in trees.iter().enumerate() {
         let alone = super::alone(tree, number % 2 == 1);
         let codes = all_codes(run, &alone.table, alone.node, alone.width);
         for length in 0..=alone.width + 1 {

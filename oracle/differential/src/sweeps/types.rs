@@ -26,7 +26,7 @@ pub fn sweep(run: &mut Run, size: &Size) {
             of_two(run, &table, node, other);
         }
     }
-    for table in [words_past_the_end(), widths_at_the_end(), special_types()] {
+    for table in [words_past_the_end(), lengths_at_the_end(), special_types()] {
         for node in 0..=table.count {
             of_one(run, &table, node);
             for other in [0, 1, node / 2, node, table.count - 1] {
@@ -90,18 +90,22 @@ fn words_past_the_end() -> OwnedColumns {
     maker.finish()
 }
 
-/// Widths one below, at and past 2^64 - 1, in sums and products of stopped and nearly stopped sides.
-fn widths_at_the_end() -> OwnedColumns {
+/// Widths and least compact lengths one below, at and past 2^64 - 1, in sums and products of stopped and nearly stopped
+/// sides.
+fn lengths_at_the_end() -> OwnedColumns {
     let mut maker = TableMaker::new();
     let mut word = maker.word(0);
-    let mut all = word;
+    let (mut all, mut one_less) = (word, 0);
     for _ in 1..64 {
         word = maker.shared(2, word, word);
         all = maker.shared(2, all, word);
+        one_less = maker.shared(2, one_less, word);
     }
-    // `all` is as wide as 2^64 - 1 bits, the largest number.
+    // `all` is as wide as 2^64 - 1 bits, the largest number, and `one_less` as 2^64 - 2; both have no choice of length.
     let bit = maker.word(0);
-    for (l, r) in [(all, bit), (all, all), (all, word), (word, word), (bit, all), (0, all), (all, 0)] {
+    let ends = [(all, bit), (all, all), (all, word), (word, word), (bit, all), (0, all), (all, 0)];
+    let below = [(one_less, bit), (one_less, one_less), (one_less, all), (word, one_less), (0, one_less)];
+    for (l, r) in ends.into_iter().chain(below) {
         let product = maker.push(2, l, r);
         let sum = maker.push(1, l, r);
         maker.push(1, sum, product);

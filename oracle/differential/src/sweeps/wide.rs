@@ -120,7 +120,7 @@ fn every_call(run: &mut Run, random: &mut Random, table: &OwnedColumns, node: u6
     let bytes = sparse(random, bytes_for(offset + width) + after);
     let a = Record { bytes: &bytes, offset, node };
     let out = before(bytes_for(width) + 2);
-    for call in [Call::AsLeft, Call::AsRight, Call::AsProduct, Call::CompactLen, Call::PaddedLen] {
+    for call in [Call::CompactLen, Call::PaddedLen, Call::AsLeft, Call::AsRight, Call::AsProduct] {
         run.check(&Request { a, ..Request::new(call, table.lend()) });
     }
     let q = Request { a, out: &out, ..Request::new(Call::ToCompactBits, table.lend()) };

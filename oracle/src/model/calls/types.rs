@@ -25,11 +25,12 @@ fn kind_and_sides(shape: Shape) -> [u64; 3] {
 
 pub fn facts_of(t: &Types, q: &Request, a: &mut Answer) -> Test {
     nodes_exist(t, &[q.node])?;
-    places(q.values, 7)?;
+    places(q.values, 8)?;
     let node = q.node as usize;
     let [kind, left, right] = kind_and_sides(t.shape(node));
-    let facts = [t.width(node), t.size(node), u64::from(t.padded(node)), t.class(node) as u64, kind, left, right];
-    a.values[..7].copy_from_slice(&facts);
+    let (padded, class) = (u64::from(t.padded(node)), t.class(node) as u64);
+    let facts = [t.width(node), t.size(node), padded, class, kind, left, right, t.least(node)];
+    a.values[..8].copy_from_slice(&facts);
     Ok(())
 }
 

@@ -1,4 +1,4 @@
--- `lists::requests::values_at` meets its contract: seven values at most, no position more than one past the end. Assumes nothing.
+-- `lists::requests::values_at` meets its contract: eight values at most, no position more than one past the end. Assumes nothing.
 use borrow.Author.Needs.{needs}
 use Prim.Native.Nat.{_≤_, _-_, _+_}
 use lib.ListN.{length}
