@@ -1,8 +1,8 @@
 -- Which of document 01's answers each value of an enum stands for: the number and place of a refusal, or what was accepted.
 --
---   refusalOf                   a refusal's number and place
---   nodeFacts spot order        the facts of a node, a place that a view shows, and an order, as the definitions have them
---   done_of count_of flagOf sidesOf facts_of spot_of spotsOf order_of        the answers: done, a number, yes or no, two sides, the facts of a node,
+--   refusal_of                  a refusal's number and place
+--   node_facts spot order       the facts of a node, a place that a view shows, and an order, as the definitions have them
+--   done_of count_of flag_of sides_of facts_of spot_of spots_of order_of     the answers: done, a number, yes or no, two sides, the facts of a node,
 --                               one place, two places, an order
 use Prim.Native.Nat.{ℕ, Ordering}
 use Rattle.std.specs.Prelude.{Bool}
@@ -25,52 +25,52 @@ use Rattle.answers.specs.declared.Order.{Order}
 use Rattle.answers.specs.declared.OrderAnswer.{OrderAnswer}
 
 -- A refusal's number and place.
-abbrev pub refusalOf : {A : Type 0} → Refusal → Answer A
-refusalOf r = refused r.number r.place
+abbrev pub refusal_of : {A : Type 0} → Refusal → Answer A
+refusal_of r = refused r.number r.place
 
 abbrev pub done_of : Done → Answer (Unit {0})
 done_of Done.Accepted = accepted tt
-done_of (Done.Refused r) = refusalOf r
+done_of (Done.Refused r) = refusal_of r
 
 abbrev pub count_of : Count → Answer ℕ
 count_of (Count.Is n) = accepted n
-count_of (Count.Refused r) = refusalOf r
+count_of (Count.Refused r) = refusal_of r
 
-abbrev pub flagOf : Flag → Answer Bool
-flagOf (Flag.Is b) = accepted b
-flagOf (Flag.Refused r) = refusalOf r
+abbrev pub flag_of : Flag → Answer Bool
+flag_of (Flag.Is b) = accepted b
+flag_of (Flag.Refused r) = refusal_of r
 
-abbrev pub sidesOf : SidesAnswer → Answer types.Sides
-sidesOf (SidesAnswer.Are s) = accepted (record { leftNode = s.left; rightNode = s.right })
-sidesOf (SidesAnswer.Refused r) = refusalOf r
+abbrev pub sides_of : SidesAnswer → Answer types.Sides
+sides_of (SidesAnswer.Are s) = accepted (record { left_node = s.left; right_node = s.right })
+sides_of (SidesAnswer.Refused r) = refusal_of r
 
-abbrev pub nodeFacts : Facts → tables.NodeFacts
-nodeFacts f =
+abbrev pub node_facts : Facts → tables.NodeFacts
+node_facts f =
     record {
       width_of = f.width;
       size_of = f.size;
-      paddedOf = f.padded;
-      classNo = f.class;
+      padded_of = f.padded;
+      class_no = f.class;
       kind_of = f.kind;
-      leftNode = f.left;
-      rightNode = f.right;
-      leastOf = f.least;
+      left_node = f.left;
+      right_node = f.right;
+      least_of = f.least;
     }
 
 abbrev pub facts_of : FactsAnswer → Answer tables.NodeFacts
-facts_of (FactsAnswer.Are f) = accepted (nodeFacts f)
-facts_of (FactsAnswer.Refused r) = refusalOf r
+facts_of (FactsAnswer.Are f) = accepted (node_facts f)
+facts_of (FactsAnswer.Refused r) = refusal_of r
 
 abbrev pub spot : Spot → records.Spot
 spot s = record { offset = s.offset; node = s.node }
 
 abbrev pub spot_of : SpotAnswer → Answer records.Spot
 spot_of (SpotAnswer.At s) = accepted (spot s)
-spot_of (SpotAnswer.Refused r) = refusalOf r
+spot_of (SpotAnswer.Refused r) = refusal_of r
 
-abbrev pub spotsOf : SpotsAnswer → Answer records.Spots
-spotsOf (SpotsAnswer.At a b) = accepted (record { first = spot a; second = spot b })
-spotsOf (SpotsAnswer.Refused r) = refusalOf r
+abbrev pub spots_of : SpotsAnswer → Answer records.Spots
+spots_of (SpotsAnswer.At a b) = accepted (record { first = spot a; second = spot b })
+spots_of (SpotsAnswer.Refused r) = refusal_of r
 
 abbrev pub order : Order → Ordering
 order Order.Less = Ordering.lt
@@ -79,4 +79,4 @@ order Order.Greater = Ordering.gt
 
 abbrev pub order_of : OrderAnswer → Answer Ordering
 order_of (OrderAnswer.Is o) = accepted (order o)
-order_of (OrderAnswer.Refused r) = refusalOf r
+order_of (OrderAnswer.Refused r) = refusal_of r

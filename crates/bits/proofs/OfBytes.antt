@@ -1,13 +1,13 @@
 -- Laws of `bits_of`, the bits of bytes.
 --
---   length-bitsOf length-by-bits      eight bits a byte, so bytes with equally many bits are equally many
---   getD-bitsOf set-bitsOf            one bit, and one bit set
---   bitsOf-append take-bitsOf drop-bitsOf
---   tail part part-lent               the bits from bit o on, in the bytes from byte o / 8 on
---   byte-bits                         the eight bits of one byte
---   bitsOf-injective                  bytes are what their bits say
---   are-bytes                         what the checker knows of a lent slice of u8, as `Bytes`
---   bytes-append bytes_drop bytes_take
+--   length_bits_of length_by_bits     eight bits a byte, so bytes with equally many bits are equally many
+--   get_d_bits_of set_bits_of         one bit, and one bit set
+--   bits_of_append take_bits_of drop_bits_of
+--   tail part part_lent               the bits from bit o on, in the bytes from byte o / 8 on
+--   byte_bits                         the eight bits of one byte
+--   bits_of_injective                 bytes are what their bits say
+--   are_bytes                         what the checker knows of a lent slice of u8, as `Bytes`
+--   bytes_append bytes_drop bytes_take
 use mathlib.Core.Path.{◌≡◌, refl, sym, ap, ap₂, ◌∙◌, subst}
 use mathlib.Core.Bool.{Bool, false}
 use mathlib.Core.List.{List, [], ◌∷◌, ◌++◌, append_assoc}
@@ -20,36 +20,36 @@ use mir.Syntax.{w8}
 use mir.Val.{Fits}
 use Rattle.meaning.specs.Bits.{odd, to_bits, bits_of}
 use Rattle.meaning.specs.Checked.{Bytes}
-use Rattle.bits.proofs.Numbers.{length-toBits, toBits-injective}
+use Rattle.bits.proofs.Numbers.{length_to_bits, to_bits_injective}
 
 -- Eight more, as the definitions that recurse eight times see it.
-eight-more : (k : ℕ) → 8 * suc k ≡ suc (suc (suc (suc (suc (suc (suc (suc (8 * k))))))))
-eight-more k = omega arith
+eight_more : (k : ℕ) → 8 * suc k ≡ suc (suc (suc (suc (suc (suc (suc (suc (8 * k))))))))
+eight_more k = omega arith
 
-pub length-bitsOf : (s : List ℕ) → length (bits_of s) ≡ 8 * length s
+pub length_bits_of : (s : List ℕ) → length (bits_of s) ≡ 8 * length s
 unfolding bits_of
-length-bitsOf [] = refl
-length-bitsOf (b ∷ s) = omega (arith, length-append (to_bits 8 b) (bits_of s), length-toBits 8 b, length-bitsOf s)
+length_bits_of [] = refl
+length_bits_of (b ∷ s) = omega (arith, length-append (to_bits 8 b) (bits_of s), length_to_bits 8 b, length_bits_of s)
 
-pub length-by-bits : (s t : List ℕ) → length (bits_of s) ≡ length (bits_of t) → length s ≡ length t
-length-by-bits s t e = omega (arith, length-bitsOf s, length-bitsOf t)
+pub length_by_bits : (s t : List ℕ) → length (bits_of s) ≡ length (bits_of t) → length s ≡ length t
+length_by_bits s t e = omega (arith, length_bits_of s, length_bits_of t)
 
-pub getD-bitsOf : (s : List ℕ) (at : ℕ) → get_or (bits_of s) at false ≡ odd (get_or s (at / 8) 0 / 2 ^ (7 - at % 8))
+pub get_d_bits_of : (s : List ℕ) (at : ℕ) → get_or (bits_of s) at false ≡ odd (get_or s (at / 8) 0 / 2 ^ (7 - at % 8))
 unfolding bits_of to_bits odd
-getD-bitsOf [] at = ap odd (sym (zero-div (2 ^ (7 - at % 8))))
-getD-bitsOf (b ∷ s) zero = refl
-getD-bitsOf (b ∷ s) (suc zero) = refl
-getD-bitsOf (b ∷ s) (suc (suc zero)) = refl
-getD-bitsOf (b ∷ s) (suc (suc (suc zero))) = refl
-getD-bitsOf (b ∷ s) (suc (suc (suc (suc zero)))) = refl
-getD-bitsOf (b ∷ s) (suc (suc (suc (suc (suc zero))))) = refl
-getD-bitsOf (b ∷ s) (suc (suc (suc (suc (suc (suc zero)))))) = refl
-getD-bitsOf (b ∷ s) (suc (suc (suc (suc (suc (suc (suc zero))))))) = refl
-getD-bitsOf (b ∷ s) (suc (suc (suc (suc (suc (suc (suc (suc at)))))))) =
+get_d_bits_of [] at = ap odd (sym (zero-div (2 ^ (7 - at % 8))))
+get_d_bits_of (b ∷ s) zero = refl
+get_d_bits_of (b ∷ s) (suc zero) = refl
+get_d_bits_of (b ∷ s) (suc (suc zero)) = refl
+get_d_bits_of (b ∷ s) (suc (suc (suc zero))) = refl
+get_d_bits_of (b ∷ s) (suc (suc (suc (suc zero)))) = refl
+get_d_bits_of (b ∷ s) (suc (suc (suc (suc (suc zero))))) = refl
+get_d_bits_of (b ∷ s) (suc (suc (suc (suc (suc (suc zero)))))) = refl
+get_d_bits_of (b ∷ s) (suc (suc (suc (suc (suc (suc (suc zero))))))) = refl
+get_d_bits_of (b ∷ s) (suc (suc (suc (suc (suc (suc (suc (suc at)))))))) =
     let up : ℕ = suc (suc (suc (suc (suc (suc (suc (suc at))))))) in
     let q : suc (at / 8) ≡ up / 8 = omega arith in
     let r : at % 8 ≡ up % 8 = omega arith in
-    getD-bitsOf s at ∙ ap₂ (λ (i j : ℕ). odd (get_or (b ∷ s) i 0 / 2 ^ (7 - j))) q r
+    get_d_bits_of s at ∙ ap₂ (λ (i j : ℕ). odd (get_or (b ∷ s) i 0 / 2 ^ (7 - j))) q r
 
 -- Setting a bit past a byte sets it in what follows the byte.
 set_past : (y : ℕ) (v : List Bool) (k : ℕ) (b : Bool)
@@ -58,44 +58,44 @@ unfolding to_bits
 set_past y v k b = refl
 
 -- Bit j of byte i set, where byte i becomes x.
-set-byte : (s : List ℕ) (i j x : ℕ) (b : Bool) → i < length s → j < 8 → to_bits 8 x ≡ set (to_bits 8 (get_or s i 0)) j b
+set_byte : (s : List ℕ) (i j x : ℕ) (b : Bool) → i < length s → j < 8 → to_bits 8 x ≡ set (to_bits 8 (get_or s i 0)) j b
     → bits_of (set s i x) ≡ set (bits_of s) (8 * i + j) b
 unfolding bits_of
-set-byte [] i j x b hi hj e = absurd (omega arith)
-set-byte (y ∷ s) zero j x b hi hj e =
+set_byte [] i j x b hi hj e = absurd (omega arith)
+set_byte (y ∷ s) zero j x b hi hj e =
     let n : j ≡ 8 * 0 + j = omega arith in
     ap (λ (v : List Bool). v ++ bits_of s) e
-    ∙ sym (set-append_left (to_bits 8 y) (bits_of s) j b (omega (arith, length-toBits 8 y)))
+    ∙ sym (set-append_left (to_bits 8 y) (bits_of s) j b (omega (arith, length_to_bits 8 y)))
     ∙ ap (λ (k : ℕ). set (to_bits 8 y ++ bits_of s) k b) n
-set-byte (y ∷ s) (suc i) j x b hi hj e =
+set_byte (y ∷ s) (suc i) j x b hi hj e =
     let n : suc (suc (suc (suc (suc (suc (suc (suc (8 * i + j)))))))) ≡ 8 * suc i + j = omega arith in
-    ap (λ (v : List Bool). to_bits 8 y ++ v) (set-byte s i j x b (le_of_suc-le-suc hi) hj e)
+    ap (λ (v : List Bool). to_bits 8 y ++ v) (set_byte s i j x b (le_of_suc-le-suc hi) hj e)
     ∙ set_past y (bits_of s) (8 * i + j) b
     ∙ ap (λ (k : ℕ). set (to_bits 8 y ++ bits_of s) k b) n
 
-pub set-bitsOf : (s : List ℕ) (at x : ℕ) (b : Bool) → at < 8 * length s → to_bits 8 x ≡ set (to_bits 8 (get_or s (at / 8) 0)) (at % 8) b
+pub set_bits_of : (s : List ℕ) (at x : ℕ) (b : Bool) → at < 8 * length s → to_bits 8 x ≡ set (to_bits 8 (get_or s (at / 8) 0)) (at % 8) b
     → bits_of (set s (at / 8) x) ≡ set (bits_of s) at b
-set-bitsOf s at x b h e =
+set_bits_of s at x b h e =
     let n : 8 * (at / 8) + at % 8 ≡ at = omega arith in
-    set-byte s (at / 8) (at % 8) x b (omega arith) (omega arith) e ∙ ap (λ (k : ℕ). set (bits_of s) k b) n
+    set_byte s (at / 8) (at % 8) x b (omega arith) (omega arith) e ∙ ap (λ (k : ℕ). set (bits_of s) k b) n
 
-pub bitsOf-append : (s t : List ℕ) → bits_of (s ++ t) ≡ bits_of s ++ bits_of t
+pub bits_of_append : (s t : List ℕ) → bits_of (s ++ t) ≡ bits_of s ++ bits_of t
 unfolding bits_of
-bitsOf-append [] t = refl
-bitsOf-append (b ∷ s) t = ap (λ (v : List Bool). to_bits 8 b ++ v) (bitsOf-append s t) ∙ sym (append_assoc (to_bits 8 b) (bits_of s) (bits_of t))
+bits_of_append [] t = refl
+bits_of_append (b ∷ s) t = ap (λ (v : List Bool). to_bits 8 b ++ v) (bits_of_append s t) ∙ sym (append_assoc (to_bits 8 b) (bits_of s) (bits_of t))
 
-pub drop-bitsOf : (k : ℕ) (s : List ℕ) → drop (8 * k) (bits_of s) ≡ bits_of (drop k s)
+pub drop_bits_of : (k : ℕ) (s : List ℕ) → drop (8 * k) (bits_of s) ≡ bits_of (drop k s)
 unfolding bits_of to_bits
-drop-bitsOf zero s = refl
-drop-bitsOf (suc k) [] = ap (λ (i : ℕ). drop i []) (eight-more k)
-drop-bitsOf (suc k) (b ∷ s) = ap (λ (i : ℕ). drop i (to_bits 8 b ++ bits_of s)) (eight-more k) ∙ drop-bitsOf k s
+drop_bits_of zero s = refl
+drop_bits_of (suc k) [] = ap (λ (i : ℕ). drop i []) (eight_more k)
+drop_bits_of (suc k) (b ∷ s) = ap (λ (i : ℕ). drop i (to_bits 8 b ++ bits_of s)) (eight_more k) ∙ drop_bits_of k s
 
-pub take-bitsOf : (k : ℕ) (s : List ℕ) → take (8 * k) (bits_of s) ≡ bits_of (take k s)
+pub take_bits_of : (k : ℕ) (s : List ℕ) → take (8 * k) (bits_of s) ≡ bits_of (take k s)
 unfolding bits_of to_bits
-take-bitsOf zero s = refl
-take-bitsOf (suc k) [] = ap (λ (i : ℕ). take i []) (eight-more k)
-take-bitsOf (suc k) (b ∷ s) =
-    ap (λ (i : ℕ). take i (to_bits 8 b ++ bits_of s)) (eight-more k) ∙ ap (λ (v : List Bool). to_bits 8 b ++ v) (take-bitsOf k s)
+take_bits_of zero s = refl
+take_bits_of (suc k) [] = ap (λ (i : ℕ). take i []) (eight_more k)
+take_bits_of (suc k) (b ∷ s) =
+    ap (λ (i : ℕ). take i (to_bits 8 b ++ bits_of s)) (eight_more k) ∙ ap (λ (v : List Bool). to_bits 8 b ++ v) (take_bits_of k s)
 
 -- A slice from byte k on, `&s[k..]`, is what is left after k bytes.
 pub tail : (k : ℕ) (s : List ℕ) → take (length s - k) (drop k s) ≡ drop k s
@@ -107,41 +107,41 @@ part o s =
     let n : o ≡ 8 * (o / 8) + o % 8 = omega arith in
     ap (λ (k : ℕ). drop k (bits_of s)) n
     ∙ sym (drop-drop (o % 8) (8 * (o / 8)) (bits_of s))
-    ∙ ap (drop (o % 8)) (drop-bitsOf (o / 8) s)
+    ∙ ap (drop (o % 8)) (drop_bits_of (o / 8) s)
 
 -- The same as a caller has it who lends `&bytes[o / 8..]`.
-pub part-lent : (o : ℕ) (s : List ℕ) → drop (o % 8) (bits_of (take (length s - o / 8) (drop (o / 8) s))) ≡ drop o (bits_of s)
-part-lent o s = ap (λ (t : List ℕ). drop (o % 8) (bits_of t)) (tail (o / 8) s) ∙ sym (part o s)
+pub part_lent : (o : ℕ) (s : List ℕ) → drop (o % 8) (bits_of (take (length s - o / 8) (drop (o / 8) s))) ≡ drop o (bits_of s)
+part_lent o s = ap (λ (t : List ℕ). drop (o % 8) (bits_of t)) (tail (o / 8) s) ∙ sym (part o s)
 
-take-byte : (b : ℕ) (v : List Bool) → take 8 (to_bits 8 b ++ v) ≡ to_bits 8 b
+take_byte : (b : ℕ) (v : List Bool) → take 8 (to_bits 8 b ++ v) ≡ to_bits 8 b
 unfolding to_bits
-take-byte b v = refl
+take_byte b v = refl
 
-pub byte-bits : (s : List ℕ) (i : ℕ) → i < length s → take 8 (drop (8 * i) (bits_of s)) ≡ to_bits 8 (get_or s i 0)
+pub byte_bits : (s : List ℕ) (i : ℕ) → i < length s → take 8 (drop (8 * i) (bits_of s)) ≡ to_bits 8 (get_or s i 0)
 unfolding bits_of
-byte-bits s i h =
-    ap (take 8) (drop-bitsOf i s ∙ ap bits_of (drop-cons s i 0 h)) ∙ take-byte (get_or s i 0) (bits_of (drop (suc i) s))
+byte_bits s i h =
+    ap (take 8) (drop_bits_of i s ∙ ap bits_of (drop-cons s i 0 h)) ∙ take_byte (get_or s i 0) (bits_of (drop (suc i) s))
 
-pub bitsOf-injective : (s t : List ℕ) → Bytes s → Bytes t → bits_of s ≡ bits_of t → s ≡ t
-bitsOf-injective s t hs ht e =
-    let l : length s ≡ length t = length-by-bits s t (ap length e) in
+pub bits_of_injective : (s t : List ℕ) → Bytes s → Bytes t → bits_of s ≡ bits_of t → s ≡ t
+bits_of_injective s t hs ht e =
+    let l : length s ≡ length t = length_by_bits s t (ap length e) in
     ext_get_or 0 s t l
     (λ i h.
     let k : i < length t = omega arith in
-    toBits-injective 8 (get_or s i 0) (get_or t i 0) (hs.below i h) (ht.below i k)
-    (sym (byte-bits s i h) ∙ ap (λ (v : List Bool). take 8 (drop (8 * i) v)) e ∙ byte-bits t i k))
+    to_bits_injective 8 (get_or s i 0) (get_or t i 0) (hs.below i h) (ht.below i k)
+    (sym (byte_bits s i h) ∙ ap (λ (v : List Bool). take 8 (drop (8 * i) v)) e ∙ byte_bits t i k))
 
-pub are-bytes : (s : List ℕ) → ((i : ℕ) → Fits w8 (get_or s i 0)) → Bytes s
-are-bytes s known = record { below = λ i h. (known i).fits }
+pub are_bytes : (s : List ℕ) → ((i : ℕ) → Fits w8 (get_or s i 0)) → Bytes s
+are_bytes s known = record { below = λ i h. (known i).fits }
 
-append-below : (s t : List ℕ) → ((i : ℕ) → i < length s → get_or s i 0 < 256) → ((i : ℕ) → i < length t → get_or t i 0 < 256)
+append_below : (s t : List ℕ) → ((i : ℕ) → i < length s → get_or s i 0 < 256) → ((i : ℕ) → i < length t → get_or t i 0 < 256)
     → (i : ℕ) → i < length (s ++ t) → get_or (s ++ t) i 0 < 256
-append-below [] t hs ht i h = ht i h
-append-below (x ∷ s) t hs ht zero h = hs 0 (suc-le-suc zero-le)
-append-below (x ∷ s) t hs ht (suc i) h = append-below s t (λ j l. hs (suc j) (suc-le-suc l)) ht i (le_of_suc-le-suc h)
+append_below [] t hs ht i h = ht i h
+append_below (x ∷ s) t hs ht zero h = hs 0 (suc-le-suc zero-le)
+append_below (x ∷ s) t hs ht (suc i) h = append_below s t (λ j l. hs (suc j) (suc-le-suc l)) ht i (le_of_suc-le-suc h)
 
-pub bytes-append : (s t : List ℕ) → Bytes s → Bytes t → Bytes (s ++ t)
-bytes-append s t hs ht = record { below = append-below s t hs.below ht.below }
+pub bytes_append : (s t : List ℕ) → Bytes s → Bytes t → Bytes (s ++ t)
+bytes_append s t hs ht = record { below = append_below s t hs.below ht.below }
 
 pub bytes_drop : (k : ℕ) (s : List ℕ) → Bytes s → Bytes (drop k s)
 bytes_drop k s hs =

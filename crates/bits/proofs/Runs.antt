@@ -1,8 +1,8 @@
 -- Laws of a run of bits, `take n (drop at v)`: the n bits of v from bit `at` on.
 --
---   length_run getD-run               how many bits it has, and which
---   take-run drop-run                 the beginning of a run, and what follows it, are runs
---   sub-run                           a run within a run
+--   length_run get_d_run              how many bits it has, and which
+--   take_run drop_run                 the beginning of a run, and what follows it, are runs
+--   sub_run                           a run within a run
 use mathlib.Core.Path.{◌≡◌, sym, ap, ◌∙◌}
 use mathlib.Core.List.{List, [], ◌∷◌}
 use Prim.Native.Nat.{ℕ, zero, suc, ◌+◌, ◌-◌, ◌≤◌, ◌<◌}
@@ -15,20 +15,20 @@ module _ {A : Type 0} where
   pub length_run : (v : List A) (at n : ℕ) → at + n ≤ length v → length (take n (drop at v)) ≡ n
   length_run v at n h = omega (arith, length-take n (drop at v), length-drop at v)
 
-  pub getD-run : (v : List A) (at n i : ℕ) (z : A) → i < n → get_or (take n (drop at v)) i z ≡ get_or v (at + i) z
-  getD-run v at n i z h = get_or-take n (drop at v) i z h ∙ get_or-drop at v i z
+  pub get_d_run : (v : List A) (at n i : ℕ) (z : A) → i < n → get_or (take n (drop at v)) i z ≡ get_or v (at + i) z
+  get_d_run v at n i z h = get_or-take n (drop at v) i z h ∙ get_or-drop at v i z
 
-  pub take-run : (v : List A) (at n k : ℕ) → k ≤ n → take k (take n (drop at v)) ≡ take k (drop at v)
-  take-run v at n k h = take-take k n (drop at v) h
+  pub take_run : (v : List A) (at n k : ℕ) → k ≤ n → take k (take n (drop at v)) ≡ take k (drop at v)
+  take_run v at n k h = take-take k n (drop at v) h
 
-  drop-take : (k n : ℕ) (v : List A) → drop k (take n v) ≡ take (n - k) (drop k v)
-  drop-take zero n v = ap (λ (j : ℕ). take j v) (sym (sub-zero n))
-  drop-take (suc k) zero v = ap (λ (j : ℕ). take j (drop (suc k) v)) (sym (zero-sub (suc k)))
-  drop-take (suc k) (suc n) [] = sym (take-nil (suc n - suc k))
-  drop-take (suc k) (suc n) (x ∷ v) = drop-take k n v ∙ ap (λ (j : ℕ). take j (drop k v)) (sym (suc-sub-suc n k))
+  drop_take : (k n : ℕ) (v : List A) → drop k (take n v) ≡ take (n - k) (drop k v)
+  drop_take zero n v = ap (λ (j : ℕ). take j v) (sym (sub-zero n))
+  drop_take (suc k) zero v = ap (λ (j : ℕ). take j (drop (suc k) v)) (sym (zero-sub (suc k)))
+  drop_take (suc k) (suc n) [] = sym (take-nil (suc n - suc k))
+  drop_take (suc k) (suc n) (x ∷ v) = drop_take k n v ∙ ap (λ (j : ℕ). take j (drop k v)) (sym (suc-sub-suc n k))
 
-  pub drop-run : (v : List A) (at n k : ℕ) → drop k (take n (drop at v)) ≡ take (n - k) (drop (at + k) v)
-  drop-run v at n k = drop-take k n (drop at v) ∙ ap (take (n - k)) (drop-drop k at v)
+  pub drop_run : (v : List A) (at n k : ℕ) → drop k (take n (drop at v)) ≡ take (n - k) (drop (at + k) v)
+  drop_run v at n k = drop_take k n (drop at v) ∙ ap (take (n - k)) (drop-drop k at v)
 
-  pub sub-run : (v : List A) (at n k m : ℕ) → k + m ≤ n → take m (drop k (take n (drop at v))) ≡ take m (drop (at + k) v)
-  sub-run v at n k m h = ap (take m) (drop-run v at n k) ∙ take-run v (at + k) (n - k) m (omega arith)
+  pub sub_run : (v : List A) (at n k m : ℕ) → k + m ≤ n → take m (drop k (take n (drop at v))) ≡ take m (drop (at + k) v)
+  sub_run v at n k m h = ap (take m) (drop_run v at n k) ∙ take_run v (at + k) (n - k) m (omega arith)

@@ -1,7 +1,7 @@
 -- Runs of bits, and how a code that answers a number tells an order.
 --
 --   Run s at n        n bits from bit `at` on lie within the bytes s
---   orderNo           an order as a number: 0 less, 1 equal, 2 greater
+--   order_no          an order as a number: 0 less, 1 equal, 2 greater
 use Prim.Native.Nat.{ℕ, ◌+◌, ◌*◌, ◌^◌, ◌<◌, ◌≤◌, Ordering}
 use Rattle.std.specs.Prelude.{List, length}
 
@@ -11,7 +11,7 @@ pub record Run (s : List ℕ) (at n : ℕ) : Type 0 where
   pub counted : at + n < 2 ^ 64
 
 -- An order as a number.
-abbrev pub orderNo : Ordering → ℕ
-orderNo Ordering.lt = 0
-orderNo Ordering.eq = 1
-orderNo Ordering.gt = 2
+abbrev pub order_no : Ordering → ℕ
+order_no Ordering.lt = 0
+order_no Ordering.eq = 1
+order_no Ordering.gt = 2

@@ -1,9 +1,9 @@
 -- Laws of comparing two runs.
 --
---   alike-none alike-more             runs that begin alike: from none on, by pieces
+--   alike_none alike_more             runs that begin alike: from none on, by pieces
 --   order_alike                       runs that are alike to their end are equal in order
---   Says decided order-decided        runs that are alike as far as a piece: the order of the numbers that it makes decides
---   same-by-order                     runs of one length are the same where their order is equal
+--   Says decided order_decided        runs that are alike as far as a piece: the order of the numbers that it makes decides
+--   same_by_order                     runs of one length are the same where their order is equal
 use mathlib.Core.Path.{◌≡◌, refl, sym, ap, ap₂, ◌∙◌, subst}
 use mathlib.Core.Bool.{Bool, true, false}
 use mathlib.Core.List.{List, [], ◌∷◌, ◌++◌}
@@ -14,39 +14,39 @@ use lib.Dec.{eqb}
 use lib.ListN.{length, take, drop}
 use lib.Seq.{take-add, drop-drop}
 use Rattle.meaning.specs.Bits.{odd, to_bits, bit, value}
-use Rattle.meaning.specs.Records.{sameBits, orderBit, orderBits}
+use Rattle.meaning.specs.Records.{same_bits, order_bit, order_bits}
 use Rattle.bits_compare.specs.Alike.{Alike}
-use Rattle.bits.specs.Runs.{orderNo}
-use Rattle.bits.proofs.Numbers.{length-toBits, value-below, value-toBits}
+use Rattle.bits.specs.Runs.{order_no}
+use Rattle.bits.proofs.Numbers.{length_to_bits, value_below, value_to_bits}
 
 -- ---- Runs that begin alike
 
 -- A run of k + m bits is one of k and one of m.
-two-pieces : (v : List Bool) (i k m : ℕ) → take (k + m) (drop i v) ≡ take k (drop i v) ++ take m (drop (i + k) v)
-two-pieces v i k m = take-add k m (drop i v) ∙ ap (λ (r : List Bool). take k (drop i v) ++ take m r) (drop-drop k i v)
+two_pieces : (v : List Bool) (i k m : ℕ) → take (k + m) (drop i v) ≡ take k (drop i v) ++ take m (drop (i + k) v)
+two_pieces v i k m = take-add k m (drop i v) ∙ ap (λ (r : List Bool). take k (drop i v) ++ take m r) (drop-drop k i v)
 
 module _ (v : List Bool) (i : ℕ) (w : List Bool) (j n : ℕ) where
-  pub alike-none : Alike v i w j n 0
-  alike-none = record { counted = zero-le; same = refl }
+  pub alike_none : Alike v i w j n 0
+  alike_none = record { counted = zero-le; same = refl }
 
-  pub alike-more : (k m : ℕ) → k + m ≤ n → Alike v i w j n k → take m (drop (i + k) v) ≡ take m (drop (j + k) w)
+  pub alike_more : (k m : ℕ) → k + m ≤ n → Alike v i w j n k → take m (drop (i + k) v) ≡ take m (drop (j + k) w)
       → Alike v i w j n (k + m)
-  alike-more k m h a e =
+  alike_more k m h a e =
       record {
         counted = h;
-        same = two-pieces v i k m ∙ ap₂ (λ (p q : List Bool). p ++ q) a.same e ∙ sym (two-pieces w j k m);
+        same = two_pieces v i k m ∙ ap₂ (λ (p q : List Bool). p ++ q) a.same e ∙ sym (two_pieces w j k m);
       }
 
 -- ---- Order
 
-order-self : (v : List Bool) → orderBits v v ≡ Ordering.eq
-unfolding orderBits
-order-self [] = refl
-order-self (true ∷ v) = order-self v
-order-self (false ∷ v) = order-self v
+order_self : (v : List Bool) → order_bits v v ≡ Ordering.eq
+unfolding order_bits
+order_self [] = refl
+order_self (true ∷ v) = order_self v
+order_self (false ∷ v) = order_self v
 
-pub order_alike : {v w : List Bool} → v ≡ w → orderBits v w ≡ Ordering.eq
-order_alike {v} {w} e = ap (orderBits v) (sym e) ∙ order-self v
+pub order_alike : {v w : List Bool} → v ≡ w → order_bits v w ≡ Ordering.eq
+order_alike {v} {w} e = ap (order_bits v) (sym e) ∙ order_self v
 
 -- The order of the first parts decides, unless they are equal.
 abbrev pub decided : Ordering → Ordering → Ordering
@@ -54,15 +54,15 @@ decided Ordering.lt o = Ordering.lt
 decided Ordering.eq o = o
 decided Ordering.gt o = Ordering.gt
 
-order-append : (p q v w : List Bool) → length p ≡ length q → orderBits (p ++ v) (q ++ w) ≡ decided (orderBits p q) (orderBits v w)
-unfolding orderBits
-order-append [] [] v w h = refl
-order-append [] (c ∷ q) v w h = absurd (omega arith)
-order-append (b ∷ p) [] v w h = absurd (omega arith)
-order-append (true ∷ p) (true ∷ q) v w h = order-append p q v w (omega arith)
-order-append (true ∷ p) (false ∷ q) v w h = refl
-order-append (false ∷ p) (true ∷ q) v w h = refl
-order-append (false ∷ p) (false ∷ q) v w h = order-append p q v w (omega arith)
+order_append : (p q v w : List Bool) → length p ≡ length q → order_bits (p ++ v) (q ++ w) ≡ decided (order_bits p q) (order_bits v w)
+unfolding order_bits
+order_append [] [] v w h = refl
+order_append [] (c ∷ q) v w h = absurd (omega arith)
+order_append (b ∷ p) [] v w h = absurd (omega arith)
+order_append (true ∷ p) (true ∷ q) v w h = order_append p q v w (omega arith)
+order_append (true ∷ p) (false ∷ q) v w h = refl
+order_append (false ∷ p) (true ∷ q) v w h = refl
+order_append (false ∷ p) (false ∷ q) v w h = order_append p q v w (omega arith)
 
 -- What an order says of two numbers.
 abbrev pub Says : Ordering → ℕ → ℕ → Type 0
@@ -71,7 +71,7 @@ Says Ordering.eq x y = x ≡ y
 Says Ordering.gt x y = y < x
 
 -- A bit before numbers below t, which stands for t.
-says_first : (b c : Bool) (o : Ordering) (t x y : ℕ) → x < t → y < t → Says o x y → Says (orderBit b c o) (bit b * t + x) (bit c * t + y)
+says_first : (b c : Bool) (o : Ordering) (t x y : ℕ) → x < t → y < t → Says o x y → Says (order_bit b c o) (bit b * t + x) (bit c * t + y)
 says_first true true Ordering.lt t x y hx hy h = omega arith
 says_first true true Ordering.eq t x y hx hy h = omega arith
 says_first true true Ordering.gt t x y hx hy h = omega arith
@@ -82,76 +82,76 @@ says_first false false Ordering.eq t x y hx hy h = omega arith
 says_first false false Ordering.gt t x y hx hy h = omega arith
 
 -- Bits are ordered as the numbers that they make.
-order_value : (k x y : ℕ) → Says (orderBits (to_bits k x) (to_bits k y)) (value k (to_bits k x)) (value k (to_bits k y))
-unfolding orderBits to_bits value
+order_value : (k x y : ℕ) → Says (order_bits (to_bits k x) (to_bits k y)) (value k (to_bits k x)) (value k (to_bits k y))
+unfolding order_bits to_bits value
 order_value zero x y = refl
 order_value (suc k) x y =
-    says_first (odd (x / 2 ^ k)) (odd (y / 2 ^ k)) (orderBits (to_bits k x) (to_bits k y)) (2 ^ k) (value k (to_bits k x)) (value k (to_bits k y))
-    (value-below k (to_bits k x))
-    (value-below k (to_bits k y))
+    says_first (odd (x / 2 ^ k)) (odd (y / 2 ^ k)) (order_bits (to_bits k x) (to_bits k y)) (2 ^ k) (value k (to_bits k x)) (value k (to_bits k y))
+    (value_below k (to_bits k x))
+    (value_below k (to_bits k y))
     (order_value k x y)
 
 -- The k bits of numbers that have no more are ordered as the numbers are.
-order-numbers : (k x y : ℕ) → x < 2 ^ k → y < 2 ^ k → Says (orderBits (to_bits k x) (to_bits k y)) x y
-order-numbers k x y hx hy =
-    subst (λ (n : ℕ). Says (orderBits (to_bits k x) (to_bits k y)) n y) (made x hx)
-    (subst (λ (n : ℕ). Says (orderBits (to_bits k x) (to_bits k y)) (value k (to_bits k x)) n) (made y hy) (order_value k x y))
+order_numbers : (k x y : ℕ) → x < 2 ^ k → y < 2 ^ k → Says (order_bits (to_bits k x) (to_bits k y)) x y
+order_numbers k x y hx hy =
+    subst (λ (n : ℕ). Says (order_bits (to_bits k x) (to_bits k y)) n y) (made x hx)
+    (subst (λ (n : ℕ). Says (order_bits (to_bits k x) (to_bits k y)) (value k (to_bits k x)) n) (made y hy) (order_value k x y))
   where
     made : (n : ℕ) → n < 2 ^ k → value k (to_bits k n) ≡ n
-    made n h = value-toBits k n ∙ mod-eq_of_lt h
+    made n h = value_to_bits k n ∙ mod-eq_of_lt h
 
 -- Only one order says what is so.
-says-one : (o p : Ordering) (x y : ℕ) → Says o x y → Says p x y → o ≡ p
-says-one Ordering.lt Ordering.lt x y s t = refl
-says-one Ordering.lt Ordering.eq x y s t = absurd (omega arith)
-says-one Ordering.lt Ordering.gt x y s t = absurd (omega arith)
-says-one Ordering.eq Ordering.lt x y s t = absurd (omega arith)
-says-one Ordering.eq Ordering.eq x y s t = refl
-says-one Ordering.eq Ordering.gt x y s t = absurd (omega arith)
-says-one Ordering.gt Ordering.lt x y s t = absurd (omega arith)
-says-one Ordering.gt Ordering.eq x y s t = absurd (omega arith)
-says-one Ordering.gt Ordering.gt x y s t = refl
+says_one : (o p : Ordering) (x y : ℕ) → Says o x y → Says p x y → o ≡ p
+says_one Ordering.lt Ordering.lt x y s t = refl
+says_one Ordering.lt Ordering.eq x y s t = absurd (omega arith)
+says_one Ordering.lt Ordering.gt x y s t = absurd (omega arith)
+says_one Ordering.eq Ordering.lt x y s t = absurd (omega arith)
+says_one Ordering.eq Ordering.eq x y s t = refl
+says_one Ordering.eq Ordering.gt x y s t = absurd (omega arith)
+says_one Ordering.gt Ordering.lt x y s t = absurd (omega arith)
+says_one Ordering.gt Ordering.eq x y s t = absurd (omega arith)
+says_one Ordering.gt Ordering.gt x y s t = refl
 
 -- What follows the first k bits of a run of n.
 abbrev pub after : List Bool → ℕ → ℕ → ℕ → List Bool
 after v i n k = take (n - k) (drop (i + k) v)
 
-run-split : (v : List Bool) (i n k : ℕ) → k ≤ n → take n (drop i v) ≡ take k (drop i v) ++ after v i n k
-run-split v i n k h = let e : n ≡ k + (n - k) = omega arith in ap (λ (l : ℕ). take l (drop i v)) e ∙ two-pieces v i k (n - k)
+run_split : (v : List Bool) (i n k : ℕ) → k ≤ n → take n (drop i v) ≡ take k (drop i v) ++ after v i n k
+run_split v i n k h = let e : n ≡ k + (n - k) = omega arith in ap (λ (l : ℕ). take l (drop i v)) e ∙ two_pieces v i k (n - k)
 
 order-after : (v w : List Bool) (i j n k : ℕ) → Alike v i w j n k
-    → orderBits (take n (drop i v)) (take n (drop j w)) ≡ orderBits (after v i n k) (after w j n k)
+    → order_bits (take n (drop i v)) (take n (drop j w)) ≡ order_bits (after v i n k) (after w j n k)
 order-after v w i j n k a =
-    ap₂ orderBits (run-split v i n k a.counted)
-    (run-split w j n k a.counted ∙ ap (λ (p : List Bool). p ++ after w j n k) (sym a.same))
-    ∙ order-append (take k (drop i v)) (take k (drop i v)) (after v i n k) (after w j n k) refl
-    ∙ ap (λ (o : Ordering). decided o (orderBits (after v i n k) (after w j n k))) (order-self (take k (drop i v)))
+    ap₂ order_bits (run_split v i n k a.counted)
+    (run_split w j n k a.counted ∙ ap (λ (p : List Bool). p ++ after w j n k) (sym a.same))
+    ∙ order_append (take k (drop i v)) (take k (drop i v)) (after v i n k) (after w j n k) refl
+    ∙ ap (λ (o : Ordering). decided o (order_bits (after v i n k) (after w j n k))) (order_self (take k (drop i v)))
 
 -- Runs of n bits whose first k are alike. The next m bits of each make x and y, and what is so of these decides: nothing yet where they are equal.
-pub order-decided : (v w : List Bool) (i j n k m x y : ℕ) (o : Ordering) → Alike v i w j n k → k + m ≤ n
+pub order_decided : (v w : List Bool) (i j n k m x y : ℕ) (o : Ordering) → Alike v i w j n k → k + m ≤ n
     → to_bits m x ≡ take m (drop (i + k) v)
     → to_bits m y ≡ take m (drop (j + k) w)
     → x < 2 ^ m
     → y < 2 ^ m
     → Says o x y
-    → orderBits (take n (drop i v)) (take n (drop j w)) ≡ decided o (orderBits (after v (i + k) (n - k) m) (after w (j + k) (n - k) m))
-order-decided v w i j n k m x y o a h ex ey hx hy s =
+    → order_bits (take n (drop i v)) (take n (drop j w)) ≡ decided o (order_bits (after v (i + k) (n - k) m) (after w (j + k) (n - k) m))
+order_decided v w i j n k m x y o a h ex ey hx hy s =
     order-after v w i j n k a
-    ∙ ap₂ orderBits (piece v i x ex) (piece w j y ey)
-    ∙ order-append (to_bits m x) (to_bits m y) (after v (i + k) (n - k) m) (after w (j + k) (n - k) m) (length-toBits m x ∙ sym (length-toBits m y))
-    ∙ ap (λ (p : Ordering). decided p (orderBits (after v (i + k) (n - k) m) (after w (j + k) (n - k) m)))
-    (says-one (orderBits (to_bits m x) (to_bits m y)) o x y (order-numbers m x y hx hy) s)
+    ∙ ap₂ order_bits (piece v i x ex) (piece w j y ey)
+    ∙ order_append (to_bits m x) (to_bits m y) (after v (i + k) (n - k) m) (after w (j + k) (n - k) m) (length_to_bits m x ∙ sym (length_to_bits m y))
+    ∙ ap (λ (p : Ordering). decided p (order_bits (after v (i + k) (n - k) m) (after w (j + k) (n - k) m)))
+    (says_one (order_bits (to_bits m x) (to_bits m y)) o x y (order_numbers m x y hx hy) s)
   where
     piece : (u : List Bool) (at z : ℕ) → to_bits m z ≡ take m (drop (at + k) u) → after u at n k ≡ to_bits m z ++ after u (at + k) (n - k) m
     piece u at z e =
-        run-split u (at + k) (n - k) m (omega arith) ∙ ap (λ (p : List Bool). p ++ after u (at + k) (n - k) m) (sym e)
+        run_split u (at + k) (n - k) m (omega arith) ∙ ap (λ (p : List Bool). p ++ after u (at + k) (n - k) m) (sym e)
 
-pub same-by-order : (v w : List Bool) → length v ≡ length w → eqb (orderNo (orderBits v w)) 1 ≡ sameBits v w
-unfolding orderBits sameBits
-same-by-order [] [] h = refl
-same-by-order [] (c ∷ w) h = absurd (omega arith)
-same-by-order (b ∷ v) [] h = absurd (omega arith)
-same-by-order (true ∷ v) (true ∷ w) h = same-by-order v w (omega arith)
-same-by-order (true ∷ v) (false ∷ w) h = refl
-same-by-order (false ∷ v) (true ∷ w) h = refl
-same-by-order (false ∷ v) (false ∷ w) h = same-by-order v w (omega arith)
+pub same_by_order : (v w : List Bool) → length v ≡ length w → eqb (order_no (order_bits v w)) 1 ≡ same_bits v w
+unfolding order_bits same_bits
+same_by_order [] [] h = refl
+same_by_order [] (c ∷ w) h = absurd (omega arith)
+same_by_order (b ∷ v) [] h = absurd (omega arith)
+same_by_order (true ∷ v) (true ∷ w) h = same_by_order v w (omega arith)
+same_by_order (true ∷ v) (false ∷ w) h = refl
+same_by_order (false ∷ v) (true ∷ w) h = refl
+same_by_order (false ∷ v) (false ∷ w) h = same_by_order v w (omega arith)

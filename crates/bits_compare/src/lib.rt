@@ -1,8 +1,8 @@
 // Runs of bits compared. Inner: a public call has checked that the runs lie within their bytes.
 ghost use Rattle.std.specs.Prelude.{◌≡◌, ◌*◌, ◌<◌, min, take, drop};
 ghost use Rattle.meaning.specs.Bits.{bits_of};
-ghost use Rattle.meaning.specs.Records.{sameBits, orderBits};
-ghost use Rattle.bits.specs.Runs.{Run, orderNo};
+ghost use Rattle.meaning.specs.Records.{same_bits, order_bits};
+ghost use Rattle.bits.specs.Runs.{Run, order_no};
 ghost use Rattle.bits_compare.specs.Alike.{Alike};
 
 use bits::bits_at;
@@ -11,7 +11,7 @@ use bits::bits_at;
 pub fn same_bits(a: &[u8], from: usize, b: &[u8], at: usize, n: usize) -> bool
     requires run { Run a.now from n }
     requires run_2 { Run b.now at n }
-    ensures { result ≡ sameBits (take n (drop from (bits_of a.now))) (take n (drop at (bits_of b.now))) }
+    ensures { result ≡ same_bits (take n (drop from (bits_of a.now))) (take n (drop at (bits_of b.now))) }
 {
     order_bits(a, from, b, at, n) == 1
 }
@@ -21,7 +21,7 @@ pub fn same_bits(a: &[u8], from: usize, b: &[u8], at: usize, n: usize) -> bool
 pub fn order_bits(a: &[u8], from: usize, b: &[u8], at: usize, n: usize) -> u8
     requires run { Run a.now from n }
     requires run_2 { Run b.now at n }
-    ensures { result ≡ orderNo (orderBits (take n (drop from (bits_of a.now))) (take n (drop at (bits_of b.now)))) }
+    ensures { result ≡ order_no (order_bits (take n (drop from (bits_of a.now))) (take n (drop at (bits_of b.now)))) }
 {
     let large = alike_blocks(a, from, b, at, n, 0, 64);
     let mut same = alike_blocks(a, from, b, at, n, large, 8);

@@ -1,9 +1,9 @@
 -- The converse of `Passed`: what is within the limits passes the first rungs of a call.
 --
---   asked-passes named-passes handed-passes stream-passes     1 and 2; 1 to 4; 1 to 5 of records; 1 to 5 of a stream
---   held-passes                 1 to 5 of one record
+--   asked_passes named_passes handed_passes stream_passes     1 and 2; 1 to 4; 1 to 5 of records; 1 to 5 of a stream
+--   held_passes                 1 to 5 of one record
 --   stream-fits                 5 does not apply to a stream within its bytes with a position within the stream
---   handed-accepts              a call without other rungs is accepted then, with whatever it answers
+--   handed_accepts              a call without other rungs is accepted then, with whatever it answers
 -- Assumes nothing.
 use Prim.Native.Nat.{ℕ, ◌+◌, ◌*◌, ◌≤◌}
 use mathlib.Core.Path.{◌≡◌, sym, ap, ◌∙◌, subst}
@@ -16,15 +16,15 @@ use borrow.Author.Tests.{le-ltb}
 use Rattle.meaning.specs.Choice.{any}
 use Rattle.meaning.specs.Types.{bits}
 use Rattle.meaning.specs.Tables.{Table}
-use Rattle.meaning.specs.Ladder.{accepted, Rung, ladder, sound, present, named, within, streamFits, Record, Stream, type_of}
+use Rattle.meaning.specs.Ladder.{accepted, Rung, ladder, sound, present, named, within, stream_fits, Record, Stream, type_of}
 use Rattle.meaning.specs.TypeCalls.{asks}
 use Rattle.meaning.specs.RecordCalls.{handed}
-use Rattle.meaning.specs.CodecCalls.{readRungs}
+use Rattle.meaning.specs.CodecCalls.{read_rungs}
 use Rattle.meaning.specs.Checked.{Sound}
 use Rattle.meaning.proofs.Choices.{In, any_none}
-use Rattle.meaning.proofs.Ladders.{ladder-pass, ladder-any, ladder-fails, present-pass}
-use Rattle.meaning.proofs.Limits.{limits-pass}
-use Rattle.meaning.proofs.Tests.{or-none}
+use Rattle.meaning.proofs.Ladders.{ladder_pass, ladder_any, ladder_fails, present_pass}
+use Rattle.meaning.proofs.Limits.{limits_pass}
+use Rattle.meaning.proofs.Tests.{or_none}
 use Rattle.checked.specs.Passed.{All, Present, Named, Held, Streamed}
 
 -- What every member has, each member has.
@@ -39,45 +39,45 @@ unfolding ladder
 alone rs e = ap (λ (x : List Rung). ladder x (tt {0})) (sym (append-nil rs)) ∙ e
 
 module _ (t : Table) (s : Sound t) where
-  pub asked-passes : (ns : List ℕ) → All (Present t) ns → asks t ns [] (tt {0}) ≡ accepted (tt {0})
-  asked-passes ns a =
-      alone (sound t ++ present t ns) (present-pass t s ns (λ n i. (each (Present t) ns a n i).here) [] (tt {0}))
+  pub asked_passes : (ns : List ℕ) → All (Present t) ns → asks t ns [] (tt {0}) ≡ accepted (tt {0})
+  asked_passes ns a =
+      alone (sound t ++ present t ns) (present_pass t s ns (λ n i. (each (Present t) ns a n i).here) [] (tt {0}))
 
-  pub named-passes : (ns : List ℕ) → All (Named t) ns → ladder (named t ns) (tt {0}) ≡ accepted (tt {0})
-  named-passes ns a =
+  pub named_passes : (ns : List ℕ) → All (Named t) ns → ladder (named t ns) (tt {0}) ≡ accepted (tt {0})
+  named_passes ns a =
       let of = each (Named t) ns a in
       alone (named t ns)
-      (limits-pass t s ns (λ n i. (of n i).here) [] (tt {0}) (λ n i. (of n i).narrow) (λ n i. (of n i).few))
+      (limits_pass t s ns (λ n i. (of n i).here) [] (tt {0}) (λ n i. (of n i).narrow) (λ n i. (of n i).few))
 
   -- The nodes that a call names: those of its records, and more.
   names : (rs : List Record) (ns : List ℕ) → All (Held t) rs → All (Named t) ns → All (Named t) (map (λ r. r.node) rs ++ ns)
   names [] ns h a = a
   names (r ∷ rs) ns h a = (h.0.named, names rs ns h.1 a)
 
-  pub handed-passes : (rs : List Record) (ns : List ℕ) → All (Held t) rs → All (Named t) ns → ladder (handed t rs ns) (tt {0}) ≡ accepted (tt {0})
+  pub handed_passes : (rs : List Record) (ns : List ℕ) → All (Held t) rs → All (Named t) ns → ladder (handed t rs ns) (tt {0}) ≡ accepted (tt {0})
   unfolding ladder
-  handed-passes rs ns h a =
-      ladder-pass (named t (map (λ r. r.node) rs ++ ns)) (within t rs) (tt {0}) (tt {0}) (tt {0})
-      (named-passes (map (λ r. r.node) rs ++ ns) (names rs ns h a))
-      ∙ ladder-fails (any (λ r. ltb (8 * length r.bytes) (r.offset + bits (type_of t r))) rs) 5 0 [] (tt {0})
+  handed_passes rs ns h a =
+      ladder_pass (named t (map (λ r. r.node) rs ++ ns)) (within t rs) (tt {0}) (tt {0}) (tt {0})
+      (named_passes (map (λ r. r.node) rs ++ ns) (names rs ns h a))
+      ∙ ladder_fails (any (λ r. ltb (8 * length r.bytes) (r.offset + bits (type_of t r))) rs) 5 0 [] (tt {0})
       (any_none (λ r. ltb (8 * length r.bytes) (r.offset + bits (type_of t r))) rs
       (λ r i. le-ltb (8 * length r.bytes) (r.offset + bits (type_of t r)) (each (Held t) rs h r i).ends))
 
-  pub handed-accepts : {A : Type 0} (rs : List Record) (ns : List ℕ) (v : A) → All (Held t) rs → All (Named t) ns
+  pub handed_accepts : {A : Type 0} (rs : List Record) (ns : List ℕ) (v : A) → All (Held t) rs → All (Named t) ns
       → ladder (handed t rs ns) v ≡ accepted v
-  handed-accepts rs ns v h a = ladder-any (handed t rs ns) (tt {0}) (tt {0}) v (handed-passes rs ns h a)
+  handed_accepts rs ns v h a = ladder_any (handed t rs ns) (tt {0}) (tt {0}) v (handed_passes rs ns h a)
 
-pub held-passes : (t : Table) (r : Record) → Held t r → ladder (handed t (r ∷ []) []) (tt {0}) ≡ accepted (tt {0})
-held-passes t r h = handed-passes t h.named.sound (r ∷ []) [] (h, tt) tt
+pub held_passes : (t : Table) (r : Record) → Held t r → ladder (handed t (r ∷ []) []) (tt {0}) ≡ accepted (tt {0})
+held_passes t r h = handed_passes t h.named.sound (r ∷ []) [] (h, tt) tt
 
 pub stream-fits : (s : Stream) → s.until ≤ 8 * length s.bytes → s.position ≤ s.until
     → (ltb (8 * length s.bytes) s.until || ltb s.until s.position) ≡ false
 stream-fits s h k =
-    or-none (ltb (8 * length s.bytes) s.until) (ltb s.until s.position) (le-ltb (8 * length s.bytes) s.until h)
+    or_none (ltb (8 * length s.bytes) s.until) (ltb s.until s.position) (le-ltb (8 * length s.bytes) s.until h)
     (le-ltb s.until s.position k)
 
-pub stream-passes : (t : Table) (s : Stream) (n : ℕ) → Streamed t s n → ladder (readRungs t s n) (tt {0}) ≡ accepted (tt {0})
+pub stream_passes : (t : Table) (s : Stream) (n : ℕ) → Streamed t s n → ladder (read_rungs t s n) (tt {0}) ≡ accepted (tt {0})
 unfolding ladder
-stream-passes t s n h =
-    ladder-pass (named t (n ∷ [])) (streamFits s) (tt {0}) (tt {0}) (tt {0}) (named-passes t h.named.sound (n ∷ []) (h.named, tt))
-    ∙ ladder-fails (ltb (8 * length s.bytes) s.until || ltb s.until s.position) 5 0 [] (tt {0}) (stream-fits s h.ends h.begins)
+stream_passes t s n h =
+    ladder_pass (named t (n ∷ [])) (stream_fits s) (tt {0}) (tt {0}) (tt {0}) (named_passes t h.named.sound (n ∷ []) (h.named, tt))
+    ∙ ladder_fails (ltb (8 * length s.bytes) s.until || ltb s.until s.position) 5 0 [] (tt {0}) (stream-fits s h.ends h.begins)

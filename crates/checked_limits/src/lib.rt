@@ -1,9 +1,9 @@
 // The rungs 2 to 5 of one record or one node by number, for `checked_rungs`. Inner: the count is at most 1,024, and the groups
 // reach it.
 ghost use Rattle.std.specs.Prelude.{◌≡◌, false, ◌+◌, ◌*◌, ◌<◌, ◌≤◌, min, length, get_or, ltb, leb};
-ghost use Rattle.meaning.specs.Groups.{groupSize, factIn};
+ghost use Rattle.meaning.specs.Groups.{group_size, fact_in};
 ghost use Rattle.answers.specs.Verdicts.{done_of};
-ghost use Rattle.checked_limits.specs.Limits.{firstRung, limitAnswer};
+ghost use Rattle.checked_limits.specs.Limits.{first_rung, limit_answer};
 
 use answers::Done;
 
@@ -18,8 +18,8 @@ const LARGEST: u64 = 2097152;
 // 2, 3 or 4, of a node that is named as a record type.
 pub fn node_limit(groups: &[u8], count: usize, n: usize) -> u8
     requires count_bound { count ≤ 1024 }
-    requires count_in_bounds { groupSize * count ≤ length groups.now }
-    ensures { result ≡ firstRung (leb count n) (ltb 524288 (get_or (factIn 0 8 groups.now) n 0)) (ltb 2097152 (get_or (factIn 8 8 groups.now) n 0)) false }
+    requires count_in_bounds { group_size * count ≤ length groups.now }
+    ensures { result ≡ first_rung (leb count n) (ltb 524288 (get_or (fact_in 0 8 groups.now) n 0)) (ltb 2097152 (get_or (fact_in 8 8 groups.now) n 0)) false }
 {
     if count <= n {
         return 2;
@@ -52,8 +52,8 @@ pub fn past(len: usize, offset: usize, width: u64) -> bool
 // 2 to 5, of a record.
 pub fn record_limit(groups: &[u8], count: usize, len: usize, offset: usize, n: usize) -> u8
     requires count_bound { count ≤ 1024 }
-    requires count_in_bounds { groupSize * count ≤ length groups.now }
-    ensures { result ≡ firstRung (leb count n) (ltb 524288 (get_or (factIn 0 8 groups.now) n 0)) (ltb 2097152 (get_or (factIn 8 8 groups.now) n 0)) (ltb (8 * len) (offset + get_or (factIn 0 8 groups.now) n 0)) }
+    requires count_in_bounds { group_size * count ≤ length groups.now }
+    ensures { result ≡ first_rung (leb count n) (ltb 524288 (get_or (fact_in 0 8 groups.now) n 0)) (ltb 2097152 (get_or (fact_in 8 8 groups.now) n 0)) (ltb (8 * len) (offset + get_or (fact_in 0 8 groups.now) n 0)) }
 {
     let limit = node_limit(groups, count, n);
     if limit != NONE {
@@ -77,7 +77,7 @@ pub fn least(a: u8, b: u8) -> u8
 
 // The refusal with that number.
 pub fn limited(limit: u8) -> Done
-    ensures { done_of result ≡ limitAnswer limit }
+    ensures { done_of result ≡ limit_answer limit }
 {
     if limit == 2 {
         return Done::Refused(answers::NO_SUCH_NODE);

@@ -3,10 +3,10 @@
 // is asked once, and the least number refuses.
 ghost use Rattle.std.specs.Prelude.{◌≡◌, [], ◌∷◌};
 ghost use Rattle.meaning.specs.Tables.{table};
-ghost use Rattle.meaning.specs.Ladder.{ladder, record_of, stream-of};
+ghost use Rattle.meaning.specs.Ladder.{ladder, record_of, stream_of};
 ghost use Rattle.meaning.specs.Ladder as rungs;
 ghost use Rattle.meaning.specs.RecordCalls.{handed};
-ghost use Rattle.meaning.specs.CodecCalls.{readRungs};
+ghost use Rattle.meaning.specs.CodecCalls.{read_rungs};
 ghost use Rattle.answers.specs.Verdicts.{done_of};
 
 use answers::Done;
@@ -150,7 +150,7 @@ pub fn stream(
     position: usize,
     node: usize,
 ) -> Done
-    ensures { done_of result ≡ ladder (readRungs (table kinds.now lefts.now rights.now groups.now count) (stream-of bytes.now until position) node) (tt {0}) }
+    ensures { done_of result ≡ ladder (read_rungs (table kinds.now lefts.now rights.now groups.now count) (stream_of bytes.now until position) node) (tt {0}) }
 {
     let judged = named(kinds, lefts, rights, groups, count, node);
     if let Done::Refused(r) = judged {

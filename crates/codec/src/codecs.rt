@@ -1,8 +1,8 @@
 // The two readers and the two writers.
 ghost use Rattle.std.specs.Prelude.{◌≡◌};
 ghost use Rattle.meaning.specs.Tables.{table};
-ghost use Rattle.meaning.specs.Ladder.{record_of, stream-of};
-ghost use Rattle.meaning.specs.CodecCalls.{fromCompactCall, fromCompactOut, fromPaddedCall, fromPaddedOut, toCompactCall, toCompactOut, toPaddedCall, toPaddedOut};
+ghost use Rattle.meaning.specs.Ladder.{record_of, stream_of};
+ghost use Rattle.meaning.specs.CodecCalls.{from_compact_call, from_compact_out, from_padded_call, from_padded_out, to_compact_call, to_compact_out, to_padded_call, to_padded_out};
 ghost use Rattle.answers.specs.Verdicts.{count_of};
 
 use answers::{Count, Done};
@@ -20,8 +20,8 @@ pub fn from_compact_bits(
     node: usize,
     out: &mut [u8],
 ) -> Count
-    ensures result_value { count_of result ≡ fromCompactCall (table kinds.now lefts.now rights.now groups.now count) (stream-of bytes.now until position) node out.old }
-    ensures out_after { out.new ≡ fromCompactOut (table kinds.now lefts.now rights.now groups.now count) (stream-of bytes.now until position) node out.old }
+    ensures result_value { count_of result ≡ from_compact_call (table kinds.now lefts.now rights.now groups.now count) (stream_of bytes.now until position) node out.old }
+    ensures out_after { out.new ≡ from_compact_out (table kinds.now lefts.now rights.now groups.now count) (stream_of bytes.now until position) node out.old }
 {
     let passed = checked_rungs::stream(
         kinds, lefts, rights, groups, count, bytes, until, position, node,
@@ -57,8 +57,8 @@ pub fn from_padded_bits(
     node: usize,
     out: &mut [u8],
 ) -> Count
-    ensures result_value { count_of result ≡ fromPaddedCall (table kinds.now lefts.now rights.now groups.now count) (stream-of bytes.now until position) node out.old }
-    ensures out_after { out.new ≡ fromPaddedOut (table kinds.now lefts.now rights.now groups.now count) (stream-of bytes.now until position) node out.old }
+    ensures result_value { count_of result ≡ from_padded_call (table kinds.now lefts.now rights.now groups.now count) (stream_of bytes.now until position) node out.old }
+    ensures out_after { out.new ≡ from_padded_out (table kinds.now lefts.now rights.now groups.now count) (stream_of bytes.now until position) node out.old }
 {
     let passed = checked_rungs::stream(
         kinds, lefts, rights, groups, count, bytes, until, position, node,
@@ -92,8 +92,8 @@ pub fn to_compact_bits(
     node: usize,
     out: &mut [u8],
 ) -> Count
-    ensures result_value { count_of result ≡ toCompactCall (table kinds.now lefts.now rights.now groups.now count) (record_of bytes.now offset node) out.old }
-    ensures out_after { out.new ≡ toCompactOut (table kinds.now lefts.now rights.now groups.now count) (record_of bytes.now offset node) out.old }
+    ensures result_value { count_of result ≡ to_compact_call (table kinds.now lefts.now rights.now groups.now count) (record_of bytes.now offset node) out.old }
+    ensures out_after { out.new ≡ to_compact_out (table kinds.now lefts.now rights.now groups.now count) (record_of bytes.now offset node) out.old }
 {
     let passed = checked_rungs::record(kinds, lefts, rights, groups, count, bytes, offset, node);
     if let Done::Refused(r) = passed {
@@ -122,8 +122,8 @@ pub fn to_padded_bits(
     node: usize,
     out: &mut [u8],
 ) -> Count
-    ensures result_value { count_of result ≡ toPaddedCall (table kinds.now lefts.now rights.now groups.now count) (record_of bytes.now offset node) out.old }
-    ensures out_after { out.new ≡ toPaddedOut (table kinds.now lefts.now rights.now groups.now count) (record_of bytes.now offset node) out.old }
+    ensures result_value { count_of result ≡ to_padded_call (table kinds.now lefts.now rights.now groups.now count) (record_of bytes.now offset node) out.old }
+    ensures out_after { out.new ≡ to_padded_out (table kinds.now lefts.now rights.now groups.now count) (record_of bytes.now offset node) out.old }
 {
     let passed = checked_rungs::record(kinds, lefts, rights, groups, count, bytes, offset, node);
     if let Done::Refused(r) = passed {

@@ -2,7 +2,7 @@
 ghost use Rattle.std.specs.Prelude.{◌≡◌};
 ghost use Rattle.meaning.specs.Tables.{table};
 ghost use Rattle.meaning.specs.Ladder.{record_of};
-ghost use Rattle.meaning.specs.RecordCalls.{compactLenCall};
+ghost use Rattle.meaning.specs.RecordCalls.{compact_len_call};
 ghost use Rattle.answers.specs.Verdicts.{count_of};
 
 use answers::{Count, Done};
@@ -18,7 +18,7 @@ pub fn compact_len(
     offset: usize,
     node: usize,
 ) -> Count
-    ensures { count_of result ≡ compactLenCall (table kinds.now lefts.now rights.now groups.now count) (record_of bytes.now offset node) }
+    ensures { count_of result ≡ compact_len_call (table kinds.now lefts.now rights.now groups.now count) (record_of bytes.now offset node) }
 {
     let passed = checked_rungs::record(kinds, lefts, rights, groups, count, bytes, offset, node);
     if let Done::Refused(r) = passed {

@@ -5,7 +5,7 @@ ghost use Rattle.std.specs.Prelude.{◌≡◌, false, ◌+◌, drop};
 ghost use Rattle.meaning.specs.Types.{bits};
 ghost use Rattle.meaning.specs.Tables.{table, columns, ty_at};
 ghost use Rattle.meaning.specs.Bits.{bits_of, written};
-ghost use Rattle.meaning.specs.Codecs.{decodeCompact, isEarly, recordOf, consumed};
+ghost use Rattle.meaning.specs.Codecs.{decode_compact, is_early, decoded_record, consumed};
 ghost use Rattle.bits.specs.Runs.{Run};
 ghost use Rattle.checked.specs.Passed.{Named};
 ghost use Rattle.codec_laws.specs.Walks.{ReadTo};
@@ -24,10 +24,10 @@ fn read_compact(
     to: usize,
 ) -> usize
     requires named { Named (table kinds.now lefts.now rights.now groups.now count) node }
-    requires src_value { isEarly (decodeCompact (ty_at (columns kinds.now lefts.now rights.now) node) (drop at (bits_of src.now))) ≡ false }
-    requires run { Run src.now at (consumed (decodeCompact (ty_at (columns kinds.now lefts.now rights.now) node) (drop at (bits_of src.now)))) }
+    requires src_value { is_early (decode_compact (ty_at (columns kinds.now lefts.now rights.now) node) (drop at (bits_of src.now))) ≡ false }
+    requires run { Run src.now at (consumed (decode_compact (ty_at (columns kinds.now lefts.now rights.now) node) (drop at (bits_of src.now)))) }
     requires run_2 { Run out.old to (bits (ty_at (columns kinds.now lefts.now rights.now) node)) }
-    ensures { ReadTo (decodeCompact (ty_at (columns kinds.now lefts.now rights.now) node) (drop at (bits_of src.now))) at out.old to result out.new }
+    ensures { ReadTo (decode_compact (ty_at (columns kinds.now lefts.now rights.now) node) (drop at (bits_of src.now))) at out.old to result out.new }
 {
     let n = nodes::node_at(kinds, lefts, rights, groups, count, node);
     if !n.padded {
@@ -84,11 +84,11 @@ pub fn read_record(
     out: &mut [u8],
 ) -> usize
     requires named { Named (table kinds.now lefts.now rights.now groups.now count) node }
-    requires src_value { isEarly (decodeCompact (ty_at (columns kinds.now lefts.now rights.now) node) (drop at (bits_of src.now))) ≡ false }
-    requires run { Run src.now at (consumed (decodeCompact (ty_at (columns kinds.now lefts.now rights.now) node) (drop at (bits_of src.now)))) }
+    requires src_value { is_early (decode_compact (ty_at (columns kinds.now lefts.now rights.now) node) (drop at (bits_of src.now))) ≡ false }
+    requires run { Run src.now at (consumed (decode_compact (ty_at (columns kinds.now lefts.now rights.now) node) (drop at (bits_of src.now)))) }
     requires run_2 { Run out.old 0 (bits (ty_at (columns kinds.now lefts.now rights.now) node)) }
-    ensures value { result ≡ at + consumed (decodeCompact (ty_at (columns kinds.now lefts.now rights.now) node) (drop at (bits_of src.now))) }
-    ensures out_after { out.new ≡ written (recordOf (decodeCompact (ty_at (columns kinds.now lefts.now rights.now) node) (drop at (bits_of src.now)))) out.old }
+    ensures value { result ≡ at + consumed (decode_compact (ty_at (columns kinds.now lefts.now rights.now) node) (drop at (bits_of src.now))) }
+    ensures out_after { out.new ≡ written (decoded_record (decode_compact (ty_at (columns kinds.now lefts.now rights.now) node) (drop at (bits_of src.now)))) out.old }
 {
     let next = read_compact(kinds, lefts, rights, groups, count, src, at, node, out, 0);
     bits_runs::finish(

@@ -4,7 +4,7 @@
 ghost use Rattle.std.specs.Prelude.{◌≡◌, ◌*◌, ◌≤◌, length, take, drop};
 ghost use Rattle.meaning.specs.Tables.{table, columns, ty_at};
 ghost use Rattle.meaning.specs.Bits.{bits_of};
-ghost use Rattle.meaning.specs.Codecs.{decodeCompact, isEarly};
+ghost use Rattle.meaning.specs.Codecs.{decode_compact, is_early};
 ghost use Rattle.checked.specs.Passed.{Named};
 ghost use Rattle.codec_judging.specs.Ends.{end_of};
 
@@ -29,7 +29,7 @@ fn judge_compact(
 ) -> End
     requires named { Named (table kinds.now lefts.now rights.now groups.now count) node }
     requires at_le_until { (at ≤ until) × (until ≤ 8 * length src.now) }
-    ensures { result ≡ end_of at (decodeCompact (ty_at (columns kinds.now lefts.now rights.now) node) (drop at (take until (bits_of src.now)))) }
+    ensures { result ≡ end_of at (decode_compact (ty_at (columns kinds.now lefts.now rights.now) node) (drop at (take until (bits_of src.now)))) }
 {
     let n = nodes::node_at(kinds, lefts, rights, groups, count, node);
     if !n.padded {
@@ -80,7 +80,7 @@ pub fn ends_early(
 ) -> bool
     requires named { Named (table kinds.now lefts.now rights.now groups.now count) node }
     requires at_le_until { (at ≤ until) × (until ≤ 8 * length src.now) }
-    ensures { result ≡ isEarly (decodeCompact (ty_at (columns kinds.now lefts.now rights.now) node) (drop at (take until (bits_of src.now)))) }
+    ensures { result ≡ is_early (decode_compact (ty_at (columns kinds.now lefts.now rights.now) node) (drop at (take until (bits_of src.now)))) }
 {
     let width = checked_nodes::width_of(kinds, lefts, rights, groups, count, node);
     if width <= until - at {

@@ -1,11 +1,11 @@
 -- A node within the limits that a walk has read, and where the pieces of a record of it lie: the laws of `checked`, for such a node.
 --
 --   NodeRead                  a node within the limits, and what was read of it
---   own-width low             the width that was read is the true one; it lies below the end of the numbers
+--   own_width low             the width that was read is the true one; it lies below the end of the numbers
 --   is_sum is-prod            the tree of a node with padding, by its kind
 --   side                      a side of it, by its tag
 --   Taken taken               the side of a sum that a tag took
---   tag-inside payload-run first_run second_run     where tag, payload and parts lie in a record that lies in bytes
+--   tag_inside payload_run first_run second_run     where tag, payload and parts lie in a record that lies in bytes
 -- Assumes nothing.
 use mathlib.Core.Path.{◌≡◌, sym, subst}
 use mathlib.Core.Bool.{Bool, true, false}
@@ -20,8 +20,8 @@ use Rattle.nodes.specs.declared.Side.{Side}
 use Rattle.nodes.specs.Reading.{Reads, side_of}
 use Rattle.bits.specs.Runs.{Run}
 use Rattle.checked.specs.Passed.{Named}
-use Rattle.checked.proofs.Lent.{part-run}
-use Rattle.checked.proofs.Nodes.{SideRead, sum-tree, prod-tree, padded-inner, side-read, sum-total, prod-total}
+use Rattle.checked.proofs.Lent.{part_run}
+use Rattle.checked.proofs.Nodes.{SideRead, sum_tree, prod_tree, padded_inner, side_read, sum_total, prod_total}
 use Rattle.checked.proofs.Nodes as nodes
 
 -- Node n is within the limits, and was read as r.
@@ -37,59 +37,59 @@ pub record Taken (t : Table) (n : ℕ) (r : Node) (s : Side) : Type 0 where
   pub room : 1 + s.width ≤ r.width
 
 module _ {t : Table} {n : ℕ} {r : Node} (h : NodeRead t n r) where
-  pub own-width : r.width ≡ bits (ty_at t.columns n)
-  own-width = nodes.own-width t n r h.reads h.named
+  pub own_width : r.width ≡ bits (ty_at t.columns n)
+  own_width = nodes.own_width t n r h.reads h.named
 
   pub low : width (ty_at t.columns n) < top
   low = nodes.low t n r h.reads h.named
 
-  pub is_sum : r.kind ≡ 1 → ty_at t.columns n ≡ sum (ty_at t.columns r.left) (ty_at t.columns r.right)
-  is_sum = sum-tree t n r h.reads
+  pub is_sum_lem : r.kind ≡ 1 → ty_at t.columns n ≡ sum (ty_at t.columns r.left) (ty_at t.columns r.right)
+  is_sum_lem = sum_tree t n r h.reads
 
   -- A node with padding that is no sum is a product.
   is-two : r.padded ≡ true → (r.kind ≡ 1 → ⊥) → r.kind ≡ 2
-  is-two p f = omega (arith, padded-inner t n r h.reads p, h.reads.kind-low)
+  is-two p f = omega (arith, padded_inner t n r h.reads p, h.reads.kind_low)
 
   pub is-prod : r.padded ≡ true → (r.kind ≡ 1 → ⊥) → ty_at t.columns n ≡ prod (ty_at t.columns r.left) (ty_at t.columns r.right)
-  is-prod p f = prod-tree t n r h.reads (is-two p f)
+  is-prod p f = prod_tree t n r h.reads (is-two p f)
 
   pub side : r.padded ≡ true → (g : Bool) → SideRead t n r g
-  side p = side-read t n r h.reads h.named (padded-inner t n r h.reads p)
+  side p = side_read t n r h.reads h.named (padded_inner t n r h.reads p)
 
   -- Tag and payload fit a sum.
-  tag-room : r.kind ≡ 1 → (g : Bool) → 1 + (side_of g r).width ≤ r.width
-  tag-room k true = omega (arith, sum-total t n r h.reads h.named k)
-  tag-room k false = omega (arith, sum-total t n r h.reads h.named k)
+  tag_room : r.kind ≡ 1 → (g : Bool) → 1 + (side_of g r).width ≤ r.width
+  tag_room k true = omega (arith, sum_total t n r h.reads h.named k)
+  tag_room k false = omega (arith, sum_total t n r h.reads h.named k)
 
   pub taken : r.padded ≡ true → r.kind ≡ 1 → (g : Bool) {s : Side} → s ≡ side_of g r → Taken t n r s
   taken p k g e =
       let x = side p g in
-      subst (Taken t n r) (sym e) (record { named = x.named; falls = x.falls; wide = x.wide; room = tag-room k g })
+      subst (Taken t n r) (sym e) (record { named = x.named; falls = x.falls; wide = x.wide; room = tag_room k g })
 
   -- The parts make up a product.
   both : r.padded ≡ true → (r.kind ≡ 1 → ⊥) → r.width ≡ r.left_width + r.right_width
-  both p f = prod-total t n r h.reads h.named (is-two p f)
+  both p f = prod_total t n r h.reads h.named (is-two p f)
 
   -- A record of the node that lies in the bytes x from bit `at` on.
   module _ {x : List ℕ} {at : ℕ} (i : Run x at (bits (ty_at t.columns n))) where
-    pub tag-inside : r.kind ≡ 1 → at < 8 * length x
-    tag-inside k = omega (arith, i.inside, own-width, tag-room k true)
+    pub tag_inside : r.kind ≡ 1 → at < 8 * length x
+    tag_inside k = omega (arith, i.inside, own_width, tag_room k true)
 
     module _ (p : r.padded ≡ true) where
-      pub payload-run : {s : Side} (g : Bool) → s ≡ side_of g r → Run x (at + (r.width - s.width)) (bits (ty_at t.columns s.node))
-      payload-run g e =
+      pub payload_run : {s : Side} (g : Bool) → s ≡ side_of g r → Run x (at + (r.width - s.width)) (bits (ty_at t.columns s.node))
+      payload_run g e =
           subst (λ (y : Side). Run x (at + (r.width - y.width)) (bits (ty_at t.columns y.node))) (sym e)
-          (part-run i (r.width - (side_of g r).width) (bits (ty_at t.columns (side_of g r).node))
-          (omega (arith, own-width, (side p g).wide, (side p g).fits)))
+          (part_run i (r.width - (side_of g r).width) (bits (ty_at t.columns (side_of g r).node))
+          (omega (arith, own_width, (side p g).wide, (side p g).fits)))
 
       pub first_run : Run x at (bits (ty_at t.columns r.left))
       first_run =
           let l = side p false in
           record {
-            inside = omega (arith, i.inside, own-width, l.wide, l.fits);
-            counted = omega (arith, i.counted, own-width, l.wide, l.fits);
+            inside = omega (arith, i.inside, own_width, l.wide, l.fits);
+            counted = omega (arith, i.counted, own_width, l.wide, l.fits);
           }
 
       pub second_run : (r.kind ≡ 1 → ⊥) → Run x (at + r.left_width) (bits (ty_at t.columns r.right))
       second_run f =
-          part-run i r.left_width (bits (ty_at t.columns r.right)) (omega (arith, own-width, (side p true).wide, both p f))
+          part_run i r.left_width (bits (ty_at t.columns r.right)) (omega (arith, own_width, (side p true).wide, both p f))

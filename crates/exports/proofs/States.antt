@@ -1,8 +1,8 @@
 -- The struct that is made of slices stands for them: `ctx8` answers for it as for the slices.
 --
---   no-stand stands             a struct out of range; one that holds the slices
+--   no_stand stands             a struct out of range; one that holds the slices
 --   stops keeps                 a ladder past a rung that holds, and an output after it
---   handed-call handed_out      the answer, and the output
+--   handed_call handed_out      the answer, and the output
 -- Assumes nothing.
 use Prim.Native.Nat.{ℕ, ◌≤◌, ◌<◌}
 use native.Mathlib.Nat.{le_of_eq}
@@ -16,25 +16,25 @@ use borrow.Author.Tests.{eq-eqb, le-leb}
 use Rattle.meaning.specs.Types.{same}
 use Rattle.meaning.specs.Tables.{Table}
 use Rattle.meaning.specs.Bits.{to_bits, bits_of, written}
-use Rattle.meaning.specs.Words.{bufferBits, ctx8, ctx8Bits}
+use Rattle.meaning.specs.Words.{buffer_bits, ctx8, ctx8_bits}
 use Rattle.meaning.specs.Ladder.{Rung, rung, ladder, kept, type_at, named, ranged, shaped, room_for, makes, made}
-use Rattle.meaning.specs.WordCalls.{ctx8Call, ctx8Out}
+use Rattle.meaning.specs.WordCalls.{ctx8_call, ctx8_out}
 use Rattle.words_states.specs.declared.HashState.{HashState}
 use Rattle.words_states.specs.State.{state_of}
-use Rattle.exports.specs.Handed.{in_range, handedState, ctx8Handed, ctx8HandedOut, Stands}
+use Rattle.exports.specs.Handed.{in_range, handed_state, ctx8_handed, ctx8_handed_out, Stands}
 
-pub no-stand : (m : List ℕ) (k : ℕ) (b : List ℕ) (s : HashState) → s.used ≡ 64 → in_range m b ≡ false → Stands m k b s
-no-stand m k b s e out =
+pub no_stand : (m : List ℕ) (k : ℕ) (b : List ℕ) (s : HashState) → s.used ≡ 64 → in_range m b ≡ false → Stands m k b s
+no_stand m k b s e out =
     record { ranges = ap (λ n. leb n 63) e ∙ sym out; means = λ h. absurd (true≢false (sym h ∙ out)) }
 
 pub stands : (m : List ℕ) (k : ℕ) (b z y : List ℕ) (s : HashState) → length m ≡ 32 → length b ≤ 63 → length z ≡ 32
     → s.midstate ≡ m ++ drop (length m) z → s.count ≡ k → s.buffer ≡ b ++ drop (length b) y → s.used ≡ length b → Stands m k b s
-unfolding ctx8Bits
+unfolding ctx8_bits
 stands m k b z y s m32 b63 z32 first counted held used =
     record {
       ranges = ap (λ n. leb n 63) used ∙ fits;
       means = λ h.
-          ap₂ (λ (x : List ℕ) (v : List Bool). bufferBits 5 x ++ v)
+          ap₂ (λ (x : List ℕ) (v : List Bool). buffer_bits 5 x ++ v)
           (ap₂ take used held ∙ take-append_seam b (drop (length b) y) ∙ sym (take-length b))
           (ap₂ (λ (n : ℕ) (x : List ℕ). to_bits 64 n ++ bits_of x) counted (first ∙ whole));
     }
@@ -59,9 +59,9 @@ keeps (rung false n p ∷ rs) ss us a out after = keeps rs ss us a out after
 
 -- A call whose bits matter only in range.
 module _ (rs ss : List Rung) (v w : List Bool) (out : List ℕ) where
-  same-call : (fine : Bool) → (fine ≡ true → v ≡ w) → makes (rs ++ (ranged fine ++ ss)) v out ≡ makes (rs ++ (ranged fine ++ ss)) w out
-  same-call true e = ap (λ x. makes (rs ++ (ranged true ++ ss)) x out) (e refl)
-  same-call false e = stops rs ss (room_for v out) (room_for w out) (length v) (length w)
+  same_call : (fine : Bool) → (fine ≡ true → v ≡ w) → makes (rs ++ (ranged fine ++ ss)) v out ≡ makes (rs ++ (ranged fine ++ ss)) w out
+  same_call true e = ap (λ x. makes (rs ++ (ranged true ++ ss)) x out) (e refl)
+  same_call false e = stops rs ss (room_for v out) (room_for w out) (length v) (length w)
 
   same_out : (fine : Bool) → (fine ≡ true → v ≡ w) → made (rs ++ (ranged fine ++ ss)) v out ≡ made (rs ++ (ranged fine ++ ss)) w out
   same_out true e = ap (λ x. made (rs ++ (ranged true ++ ss)) x out) (e refl)
@@ -69,16 +69,16 @@ module _ (rs ss : List Rung) (v w : List Bool) (out : List ℕ) where
       keeps rs ss (room_for v out) (length v) out (written v out) ∙ sym (keeps rs ss (room_for w out) (length w) out (written w out))
 
 module _ (t : Table) (m : List ℕ) (k : ℕ) (b : List ℕ) (s : HashState) (result : ℕ) (out : List ℕ) (h : Stands m k b s) where
-  pub handed-call : ctx8Call t (state_of s) result out ≡ ctx8Handed t m k b result out
-  handed-call =
+  pub handed_call : ctx8_call t (state_of s) result out ≡ ctx8_handed t m k b result out
+  handed_call =
       let rs = named t (result ∷ []) in
       let ss = shaped (same (type_at t result) ctx8) in
-      ap (λ x. makes (rs ++ (ranged x ++ ss)) (ctx8Bits (state_of s)) out) h.ranges
-      ∙ same-call rs ss (ctx8Bits (state_of s)) (ctx8Bits (handedState m k b)) out (in_range m b) h.means
+      ap (λ x. makes (rs ++ (ranged x ++ ss)) (ctx8_bits (state_of s)) out) h.ranges
+      ∙ same_call rs ss (ctx8_bits (state_of s)) (ctx8_bits (handed_state m k b)) out (in_range m b) h.means
 
-  pub handed_out : ctx8Out t (state_of s) result out ≡ ctx8HandedOut t m k b result out
+  pub handed_out : ctx8_out t (state_of s) result out ≡ ctx8_handed_out t m k b result out
   handed_out =
       let rs = named t (result ∷ []) in
       let ss = shaped (same (type_at t result) ctx8) in
-      ap (λ x. made (rs ++ (ranged x ++ ss)) (ctx8Bits (state_of s)) out) h.ranges
-      ∙ same_out rs ss (ctx8Bits (state_of s)) (ctx8Bits (handedState m k b)) out (in_range m b) h.means
+      ap (λ x. made (rs ++ (ranged x ++ ss)) (ctx8_bits (state_of s)) out) h.ranges
+      ∙ same_out rs ss (ctx8_bits (state_of s)) (ctx8_bits (handed_state m k b)) out (in_range m b) h.means

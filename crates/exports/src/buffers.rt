@@ -2,9 +2,9 @@
 // answer 6. Accepted: the width of the result, whose record stands at bit 0 of the output.
 ghost use Rattle.std.specs.Prelude.{◌≡◌, ◌++◌, ◌≤◌, length, drop};
 ghost use Rattle.meaning.specs.Tables.{table};
-ghost use Rattle.meaning.specs.WordCalls.{buffer_call, bufferOut};
+ghost use Rattle.meaning.specs.WordCalls.{buffer_call, buffer_out};
 ghost use Rattle.exports_answers.specs.Codes.{code, stored};
-ghost use Rattle.exports.specs.Handed.{ctx8Handed, ctx8HandedOut, Stands};
+ghost use Rattle.exports.specs.Handed.{ctx8_handed, ctx8_handed_out, Stands};
 
 use exports_answers::tell_count;
 use words::HashState;
@@ -25,7 +25,7 @@ pub extern "C" fn qv_buffer8_two_n_plus_one(
 ) -> u64
     ensures value { result ≡ code (buffer_call (table kinds.now lefts.now rights.now groups.now count) n «data».now res out.old) }
     ensures width_after { width.new ≡ stored (buffer_call (table kinds.now lefts.now rights.now groups.now count) n «data».now res out.old) width.old }
-    ensures out_after { out.new ≡ bufferOut (table kinds.now lefts.now rights.now groups.now count) n «data».now res out.old }
+    ensures out_after { out.new ≡ buffer_out (table kinds.now lefts.now rights.now groups.now count) n «data».now res out.old }
 {
     tell_count(
         words::buffer8_two_n_plus_one(kinds, lefts, rights, groups, count, n, data, res, out),
@@ -94,9 +94,9 @@ pub extern "C" fn qv_ctx8(
     width: &mut u64,
     out: &mut [u8],
 ) -> u64
-    ensures value { result ≡ code (ctx8Handed (table kinds.now lefts.now rights.now groups.now count) midstate.now bytes_hashed buffer.now res out.old) }
-    ensures width_after { width.new ≡ stored (ctx8Handed (table kinds.now lefts.now rights.now groups.now count) midstate.now bytes_hashed buffer.now res out.old) width.old }
-    ensures out_after { out.new ≡ ctx8HandedOut (table kinds.now lefts.now rights.now groups.now count) midstate.now bytes_hashed buffer.now res out.old }
+    ensures value { result ≡ code (ctx8_handed (table kinds.now lefts.now rights.now groups.now count) midstate.now bytes_hashed buffer.now res out.old) }
+    ensures width_after { width.new ≡ stored (ctx8_handed (table kinds.now lefts.now rights.now groups.now count) midstate.now bytes_hashed buffer.now res out.old) width.old }
+    ensures out_after { out.new ≡ ctx8_handed_out (table kinds.now lefts.now rights.now groups.now count) midstate.now bytes_hashed buffer.now res out.old }
 {
     let state = hash_state(midstate, bytes_hashed, buffer);
     tell_count(

@@ -1,8 +1,8 @@
 // The two codecs, for C. A reader moves the position; a writer answers how many bits it has written. Both write from bit 0 of the output on.
 ghost use Rattle.std.specs.Prelude.{◌≡◌};
 ghost use Rattle.meaning.specs.Tables.{table};
-ghost use Rattle.meaning.specs.Ladder.{record_of, stream-of};
-ghost use Rattle.meaning.specs.CodecCalls.{fromCompactCall, fromCompactOut, fromPaddedCall, fromPaddedOut, toCompactCall, toCompactOut, toPaddedCall, toPaddedOut};
+ghost use Rattle.meaning.specs.Ladder.{record_of, stream_of};
+ghost use Rattle.meaning.specs.CodecCalls.{from_compact_call, from_compact_out, from_padded_call, from_padded_out, to_compact_call, to_compact_out, to_padded_call, to_padded_out};
 ghost use Rattle.exports_answers.specs.Codes.{code, stored};
 
 use exports_answers::tell_count;
@@ -21,9 +21,9 @@ pub extern "C" fn qv_from_compact_bits(
     node: usize,
     out: &mut [u8],
 ) -> u64
-    ensures value { result ≡ code (fromCompactCall (table kinds.now lefts.now rights.now groups.now count) (stream-of bytes.now until position.old) node out.old) }
-    ensures position_after { position.new ≡ stored (fromCompactCall (table kinds.now lefts.now rights.now groups.now count) (stream-of bytes.now until position.old) node out.old) position.old }
-    ensures out_after { out.new ≡ fromCompactOut (table kinds.now lefts.now rights.now groups.now count) (stream-of bytes.now until position.old) node out.old }
+    ensures value { result ≡ code (from_compact_call (table kinds.now lefts.now rights.now groups.now count) (stream_of bytes.now until position.old) node out.old) }
+    ensures position_after { position.new ≡ stored (from_compact_call (table kinds.now lefts.now rights.now groups.now count) (stream_of bytes.now until position.old) node out.old) position.old }
+    ensures out_after { out.new ≡ from_compact_out (table kinds.now lefts.now rights.now groups.now count) (stream_of bytes.now until position.old) node out.old }
 {
     let from = *position as usize;
     let answer = codec::from_compact_bits(
@@ -46,9 +46,9 @@ pub extern "C" fn qv_from_padded_bits(
     node: usize,
     out: &mut [u8],
 ) -> u64
-    ensures value { result ≡ code (fromPaddedCall (table kinds.now lefts.now rights.now groups.now count) (stream-of bytes.now until position.old) node out.old) }
-    ensures position_after { position.new ≡ stored (fromPaddedCall (table kinds.now lefts.now rights.now groups.now count) (stream-of bytes.now until position.old) node out.old) position.old }
-    ensures out_after { out.new ≡ fromPaddedOut (table kinds.now lefts.now rights.now groups.now count) (stream-of bytes.now until position.old) node out.old }
+    ensures value { result ≡ code (from_padded_call (table kinds.now lefts.now rights.now groups.now count) (stream_of bytes.now until position.old) node out.old) }
+    ensures position_after { position.new ≡ stored (from_padded_call (table kinds.now lefts.now rights.now groups.now count) (stream_of bytes.now until position.old) node out.old) position.old }
+    ensures out_after { out.new ≡ from_padded_out (table kinds.now lefts.now rights.now groups.now count) (stream_of bytes.now until position.old) node out.old }
 {
     let from = *position as usize;
     let answer = codec::from_padded_bits(
@@ -71,9 +71,9 @@ pub extern "C" fn qv_to_compact_bits(
     bits: &mut u64,
     out: &mut [u8],
 ) -> u64
-    ensures value { result ≡ code (toCompactCall (table kinds.now lefts.now rights.now groups.now count) (record_of bytes.now offset node) out.old) }
-    ensures bits_after { bits.new ≡ stored (toCompactCall (table kinds.now lefts.now rights.now groups.now count) (record_of bytes.now offset node) out.old) bits.old }
-    ensures out_after { out.new ≡ toCompactOut (table kinds.now lefts.now rights.now groups.now count) (record_of bytes.now offset node) out.old }
+    ensures value { result ≡ code (to_compact_call (table kinds.now lefts.now rights.now groups.now count) (record_of bytes.now offset node) out.old) }
+    ensures bits_after { bits.new ≡ stored (to_compact_call (table kinds.now lefts.now rights.now groups.now count) (record_of bytes.now offset node) out.old) bits.old }
+    ensures out_after { out.new ≡ to_compact_out (table kinds.now lefts.now rights.now groups.now count) (record_of bytes.now offset node) out.old }
 {
     tell_count(
         codec::to_compact_bits(
@@ -97,9 +97,9 @@ pub extern "C" fn qv_to_padded_bits(
     bits: &mut u64,
     out: &mut [u8],
 ) -> u64
-    ensures value { result ≡ code (toPaddedCall (table kinds.now lefts.now rights.now groups.now count) (record_of bytes.now offset node) out.old) }
-    ensures bits_after { bits.new ≡ stored (toPaddedCall (table kinds.now lefts.now rights.now groups.now count) (record_of bytes.now offset node) out.old) bits.old }
-    ensures out_after { out.new ≡ toPaddedOut (table kinds.now lefts.now rights.now groups.now count) (record_of bytes.now offset node) out.old }
+    ensures value { result ≡ code (to_padded_call (table kinds.now lefts.now rights.now groups.now count) (record_of bytes.now offset node) out.old) }
+    ensures bits_after { bits.new ≡ stored (to_padded_call (table kinds.now lefts.now rights.now groups.now count) (record_of bytes.now offset node) out.old) bits.old }
+    ensures out_after { out.new ≡ to_padded_out (table kinds.now lefts.now rights.now groups.now count) (record_of bytes.now offset node) out.old }
 {
     tell_count(
         codec::to_padded_bits(

@@ -2,8 +2,8 @@
 ghost use Rattle.std.specs.Prelude.{◌≡◌};
 ghost use Rattle.meaning.specs.Tables.{table};
 ghost use Rattle.meaning.specs.Ladder.{record_of};
-ghost use Rattle.meaning.specs.RecordCalls.{equalCall, compareCall};
-ghost use Rattle.exports_answers.specs.Codes.{code, storedFlag, storedOrder};
+ghost use Rattle.meaning.specs.RecordCalls.{equal_call, compare_call};
+ghost use Rattle.exports_answers.specs.Codes.{code, stored_flag, stored_order};
 
 use exports_answers::{tell_flag, tell_order};
 
@@ -23,8 +23,8 @@ pub extern "C" fn qv_equal(
     b_node: usize,
     answer: &mut u64,
 ) -> u64
-    ensures value { result ≡ code (equalCall (table kinds.now lefts.now rights.now groups.now count) (record_of a_bytes.now a_offset a_node) (record_of b_bytes.now b_offset b_node)) }
-    ensures answer_after { answer.new ≡ storedFlag (equalCall (table kinds.now lefts.now rights.now groups.now count) (record_of a_bytes.now a_offset a_node) (record_of b_bytes.now b_offset b_node)) answer.old }
+    ensures value { result ≡ code (equal_call (table kinds.now lefts.now rights.now groups.now count) (record_of a_bytes.now a_offset a_node) (record_of b_bytes.now b_offset b_node)) }
+    ensures answer_after { answer.new ≡ stored_flag (equal_call (table kinds.now lefts.now rights.now groups.now count) (record_of a_bytes.now a_offset a_node) (record_of b_bytes.now b_offset b_node)) answer.old }
 {
     tell_flag(
         value::equal(
@@ -51,8 +51,8 @@ pub extern "C" fn qv_compare(
     b_node: usize,
     order: &mut u64,
 ) -> u64
-    ensures value { result ≡ code (compareCall (table kinds.now lefts.now rights.now groups.now count) (record_of a_bytes.now a_offset a_node) (record_of b_bytes.now b_offset b_node)) }
-    ensures order_after { order.new ≡ storedOrder (compareCall (table kinds.now lefts.now rights.now groups.now count) (record_of a_bytes.now a_offset a_node) (record_of b_bytes.now b_offset b_node)) order.old }
+    ensures value { result ≡ code (compare_call (table kinds.now lefts.now rights.now groups.now count) (record_of a_bytes.now a_offset a_node) (record_of b_bytes.now b_offset b_node)) }
+    ensures order_after { order.new ≡ stored_order (compare_call (table kinds.now lefts.now rights.now groups.now count) (record_of a_bytes.now a_offset a_node) (record_of b_bytes.now b_offset b_node)) order.old }
 {
     tell_order(
         value::compare(

@@ -2,7 +2,7 @@
 ghost use Rattle.std.specs.Prelude.{◌≡◌};
 ghost use Rattle.meaning.specs.Tables.{table};
 ghost use Rattle.meaning.specs.Ladder.{record_of};
-ghost use Rattle.meaning.specs.RecordCalls.{unitCall, unitOut, leftCall, leftOut, rightCall, rightOut, productCall, productOut, noneCall, noneOut, someCall, someOut, zeroCall, zeroOut};
+ghost use Rattle.meaning.specs.RecordCalls.{unit_call, unit_out, left_call, left_out, right_call, right_out, product_call, product_out, none_call, none_out, some_call, some_out, zero_call, zero_out};
 ghost use Rattle.exports_answers.specs.Codes.{code, stored};
 
 use exports_answers::tell_count;
@@ -19,9 +19,9 @@ pub extern "C" fn qv_unit(
     width: &mut u64,
     out: &mut [u8],
 ) -> u64
-    ensures value { result ≡ code (unitCall (table kinds.now lefts.now rights.now groups.now count) res out.old) }
-    ensures width_after { width.new ≡ stored (unitCall (table kinds.now lefts.now rights.now groups.now count) res out.old) width.old }
-    ensures out_after { out.new ≡ unitOut (table kinds.now lefts.now rights.now groups.now count) res out.old }
+    ensures value { result ≡ code (unit_call (table kinds.now lefts.now rights.now groups.now count) res out.old) }
+    ensures width_after { width.new ≡ stored (unit_call (table kinds.now lefts.now rights.now groups.now count) res out.old) width.old }
+    ensures out_after { out.new ≡ unit_out (table kinds.now lefts.now rights.now groups.now count) res out.old }
 {
     tell_count(
         value::unit(kinds, lefts, rights, groups, count, res, out),
@@ -41,9 +41,9 @@ pub extern "C" fn qv_zero(
     width: &mut u64,
     out: &mut [u8],
 ) -> u64
-    ensures value { result ≡ code (zeroCall (table kinds.now lefts.now rights.now groups.now count) res out.old) }
-    ensures width_after { width.new ≡ stored (zeroCall (table kinds.now lefts.now rights.now groups.now count) res out.old) width.old }
-    ensures out_after { out.new ≡ zeroOut (table kinds.now lefts.now rights.now groups.now count) res out.old }
+    ensures value { result ≡ code (zero_call (table kinds.now lefts.now rights.now groups.now count) res out.old) }
+    ensures width_after { width.new ≡ stored (zero_call (table kinds.now lefts.now rights.now groups.now count) res out.old) width.old }
+    ensures out_after { out.new ≡ zero_out (table kinds.now lefts.now rights.now groups.now count) res out.old }
 {
     tell_count(
         value::zero(kinds, lefts, rights, groups, count, res, out),
@@ -66,9 +66,9 @@ pub extern "C" fn qv_left(
     width: &mut u64,
     out: &mut [u8],
 ) -> u64
-    ensures value { result ≡ code (leftCall (table kinds.now lefts.now rights.now groups.now count) (record_of bytes.now offset node) res out.old) }
-    ensures width_after { width.new ≡ stored (leftCall (table kinds.now lefts.now rights.now groups.now count) (record_of bytes.now offset node) res out.old) width.old }
-    ensures out_after { out.new ≡ leftOut (table kinds.now lefts.now rights.now groups.now count) (record_of bytes.now offset node) res out.old }
+    ensures value { result ≡ code (left_call (table kinds.now lefts.now rights.now groups.now count) (record_of bytes.now offset node) res out.old) }
+    ensures width_after { width.new ≡ stored (left_call (table kinds.now lefts.now rights.now groups.now count) (record_of bytes.now offset node) res out.old) width.old }
+    ensures out_after { out.new ≡ left_out (table kinds.now lefts.now rights.now groups.now count) (record_of bytes.now offset node) res out.old }
 {
     tell_count(
         value::left(
@@ -93,9 +93,9 @@ pub extern "C" fn qv_right(
     width: &mut u64,
     out: &mut [u8],
 ) -> u64
-    ensures value { result ≡ code (rightCall (table kinds.now lefts.now rights.now groups.now count) (record_of bytes.now offset node) res out.old) }
-    ensures width_after { width.new ≡ stored (rightCall (table kinds.now lefts.now rights.now groups.now count) (record_of bytes.now offset node) res out.old) width.old }
-    ensures out_after { out.new ≡ rightOut (table kinds.now lefts.now rights.now groups.now count) (record_of bytes.now offset node) res out.old }
+    ensures value { result ≡ code (right_call (table kinds.now lefts.now rights.now groups.now count) (record_of bytes.now offset node) res out.old) }
+    ensures width_after { width.new ≡ stored (right_call (table kinds.now lefts.now rights.now groups.now count) (record_of bytes.now offset node) res out.old) width.old }
+    ensures out_after { out.new ≡ right_out (table kinds.now lefts.now rights.now groups.now count) (record_of bytes.now offset node) res out.old }
 {
     tell_count(
         value::right(
@@ -123,9 +123,9 @@ pub extern "C" fn qv_product(
     width: &mut u64,
     out: &mut [u8],
 ) -> u64
-    ensures value { result ≡ code (productCall (table kinds.now lefts.now rights.now groups.now count) (record_of a_bytes.now a_offset a_node) (record_of b_bytes.now b_offset b_node) res out.old) }
-    ensures width_after { width.new ≡ stored (productCall (table kinds.now lefts.now rights.now groups.now count) (record_of a_bytes.now a_offset a_node) (record_of b_bytes.now b_offset b_node) res out.old) width.old }
-    ensures out_after { out.new ≡ productOut (table kinds.now lefts.now rights.now groups.now count) (record_of a_bytes.now a_offset a_node) (record_of b_bytes.now b_offset b_node) res out.old }
+    ensures value { result ≡ code (product_call (table kinds.now lefts.now rights.now groups.now count) (record_of a_bytes.now a_offset a_node) (record_of b_bytes.now b_offset b_node) res out.old) }
+    ensures width_after { width.new ≡ stored (product_call (table kinds.now lefts.now rights.now groups.now count) (record_of a_bytes.now a_offset a_node) (record_of b_bytes.now b_offset b_node) res out.old) width.old }
+    ensures out_after { out.new ≡ product_out (table kinds.now lefts.now rights.now groups.now count) (record_of a_bytes.now a_offset a_node) (record_of b_bytes.now b_offset b_node) res out.old }
 {
     tell_count(
         value::product(
@@ -148,9 +148,9 @@ pub extern "C" fn qv_none(
     width: &mut u64,
     out: &mut [u8],
 ) -> u64
-    ensures value { result ≡ code (noneCall (table kinds.now lefts.now rights.now groups.now count) res out.old) }
-    ensures width_after { width.new ≡ stored (noneCall (table kinds.now lefts.now rights.now groups.now count) res out.old) width.old }
-    ensures out_after { out.new ≡ noneOut (table kinds.now lefts.now rights.now groups.now count) res out.old }
+    ensures value { result ≡ code (none_call (table kinds.now lefts.now rights.now groups.now count) res out.old) }
+    ensures width_after { width.new ≡ stored (none_call (table kinds.now lefts.now rights.now groups.now count) res out.old) width.old }
+    ensures out_after { out.new ≡ none_out (table kinds.now lefts.now rights.now groups.now count) res out.old }
 {
     tell_count(
         value::none(kinds, lefts, rights, groups, count, res, out),
@@ -173,9 +173,9 @@ pub extern "C" fn qv_some(
     width: &mut u64,
     out: &mut [u8],
 ) -> u64
-    ensures value { result ≡ code (someCall (table kinds.now lefts.now rights.now groups.now count) (record_of bytes.now offset node) res out.old) }
-    ensures width_after { width.new ≡ stored (someCall (table kinds.now lefts.now rights.now groups.now count) (record_of bytes.now offset node) res out.old) width.old }
-    ensures out_after { out.new ≡ someOut (table kinds.now lefts.now rights.now groups.now count) (record_of bytes.now offset node) res out.old }
+    ensures value { result ≡ code (some_call (table kinds.now lefts.now rights.now groups.now count) (record_of bytes.now offset node) res out.old) }
+    ensures width_after { width.new ≡ stored (some_call (table kinds.now lefts.now rights.now groups.now count) (record_of bytes.now offset node) res out.old) width.old }
+    ensures out_after { out.new ≡ some_out (table kinds.now lefts.now rights.now groups.now count) (record_of bytes.now offset node) res out.old }
 {
     tell_count(
         value::some(

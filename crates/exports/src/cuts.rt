@@ -2,7 +2,7 @@
 ghost use Rattle.std.specs.Prelude.{◌≡◌};
 ghost use Rattle.meaning.specs.Tables.{table};
 ghost use Rattle.meaning.specs.Ladder.{record_of};
-ghost use Rattle.meaning.specs.CutCalls.{pruneCall, pruneOut};
+ghost use Rattle.meaning.specs.CutCalls.{prune_call, prune_out};
 ghost use Rattle.exports_answers.specs.Codes.{code, stored};
 
 use exports_answers::tell_count;
@@ -22,9 +22,9 @@ pub extern "C" fn qv_prune(
     width: &mut u64,
     out: &mut [u8],
 ) -> u64
-    ensures value { result ≡ code (pruneCall (table kinds.now lefts.now rights.now groups.now count) (record_of bytes.now offset node) target out.old) }
-    ensures width_after { width.new ≡ stored (pruneCall (table kinds.now lefts.now rights.now groups.now count) (record_of bytes.now offset node) target out.old) width.old }
-    ensures out_after { out.new ≡ pruneOut (table kinds.now lefts.now rights.now groups.now count) (record_of bytes.now offset node) target out.old }
+    ensures value { result ≡ code (prune_call (table kinds.now lefts.now rights.now groups.now count) (record_of bytes.now offset node) target out.old) }
+    ensures width_after { width.new ≡ stored (prune_call (table kinds.now lefts.now rights.now groups.now count) (record_of bytes.now offset node) target out.old) width.old }
+    ensures out_after { out.new ≡ prune_out (table kinds.now lefts.now rights.now groups.now count) (record_of bytes.now offset node) target out.old }
 {
     tell_count(
         prune::prune(

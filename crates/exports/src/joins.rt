@@ -1,8 +1,8 @@
 // Words from records and from streams, for C.
 ghost use Rattle.std.specs.Prelude.{◌≡◌};
 ghost use Rattle.meaning.specs.Tables.{table};
-ghost use Rattle.meaning.specs.Ladder.{record_of, stream-of};
-ghost use Rattle.meaning.specs.WordCalls.{joinCall, joinOut, wordReadCall, wordReadOut};
+ghost use Rattle.meaning.specs.Ladder.{record_of, stream_of};
+ghost use Rattle.meaning.specs.WordCalls.{join_call, join_out, word_read_call, word_read_out};
 ghost use Rattle.exports_answers.specs.Codes.{code, stored};
 
 use exports_answers::tell_count;
@@ -25,9 +25,9 @@ pub extern "C" fn qv_word_product(
     width: &mut u64,
     out: &mut [u8],
 ) -> u64
-    ensures value { result ≡ code (joinCall (table kinds.now lefts.now rights.now groups.now count) (record_of a_bytes.now a_offset a_node) (record_of b_bytes.now b_offset b_node) res out.old) }
-    ensures width_after { width.new ≡ stored (joinCall (table kinds.now lefts.now rights.now groups.now count) (record_of a_bytes.now a_offset a_node) (record_of b_bytes.now b_offset b_node) res out.old) width.old }
-    ensures out_after { out.new ≡ joinOut (table kinds.now lefts.now rights.now groups.now count) (record_of a_bytes.now a_offset a_node) (record_of b_bytes.now b_offset b_node) res out.old }
+    ensures value { result ≡ code (join_call (table kinds.now lefts.now rights.now groups.now count) (record_of a_bytes.now a_offset a_node) (record_of b_bytes.now b_offset b_node) res out.old) }
+    ensures width_after { width.new ≡ stored (join_call (table kinds.now lefts.now rights.now groups.now count) (record_of a_bytes.now a_offset a_node) (record_of b_bytes.now b_offset b_node) res out.old) width.old }
+    ensures out_after { out.new ≡ join_out (table kinds.now lefts.now rights.now groups.now count) (record_of a_bytes.now a_offset a_node) (record_of b_bytes.now b_offset b_node) res out.old }
 {
     tell_count(
         words::word_product(
@@ -53,9 +53,9 @@ pub extern "C" fn qv_word_from_bits(
     node: usize,
     out: &mut [u8],
 ) -> u64
-    ensures value { result ≡ code (wordReadCall (table kinds.now lefts.now rights.now groups.now count) (stream-of bytes.now until position.old) n node out.old) }
-    ensures position_after { position.new ≡ stored (wordReadCall (table kinds.now lefts.now rights.now groups.now count) (stream-of bytes.now until position.old) n node out.old) position.old }
-    ensures out_after { out.new ≡ wordReadOut (table kinds.now lefts.now rights.now groups.now count) (stream-of bytes.now until position.old) n node out.old }
+    ensures value { result ≡ code (word_read_call (table kinds.now lefts.now rights.now groups.now count) (stream_of bytes.now until position.old) n node out.old) }
+    ensures position_after { position.new ≡ stored (word_read_call (table kinds.now lefts.now rights.now groups.now count) (stream_of bytes.now until position.old) n node out.old) position.old }
+    ensures out_after { out.new ≡ word_read_out (table kinds.now lefts.now rights.now groups.now count) (stream_of bytes.now until position.old) n node out.old }
 {
     let from = *position as usize;
     let answer = words::word_from_bits(

@@ -2,7 +2,7 @@
 ghost use Rattle.std.specs.Prelude.{◌≡◌};
 ghost use Rattle.meaning.specs.Tables.{table};
 ghost use Rattle.meaning.specs.Ladder.{record_of};
-ghost use Rattle.meaning.specs.RecordCalls.{compactLenCall, paddedLenCall};
+ghost use Rattle.meaning.specs.RecordCalls.{compact_len_call, padded_len_call};
 ghost use Rattle.exports_answers.specs.Codes.{code, stored};
 
 use exports_answers::tell_count;
@@ -20,8 +20,8 @@ pub extern "C" fn qv_compact_len(
     node: usize,
     bits: &mut u64,
 ) -> u64
-    ensures value { result ≡ code (compactLenCall (table kinds.now lefts.now rights.now groups.now count) (record_of bytes.now offset node)) }
-    ensures bits_after { bits.new ≡ stored (compactLenCall (table kinds.now lefts.now rights.now groups.now count) (record_of bytes.now offset node)) bits.old }
+    ensures value { result ≡ code (compact_len_call (table kinds.now lefts.now rights.now groups.now count) (record_of bytes.now offset node)) }
+    ensures bits_after { bits.new ≡ stored (compact_len_call (table kinds.now lefts.now rights.now groups.now count) (record_of bytes.now offset node)) bits.old }
 {
     tell_count(
         codec::compact_len(kinds, lefts, rights, groups, count, bytes, offset, node),
@@ -42,8 +42,8 @@ pub extern "C" fn qv_padded_len(
     node: usize,
     bits: &mut u64,
 ) -> u64
-    ensures value { result ≡ code (paddedLenCall (table kinds.now lefts.now rights.now groups.now count) (record_of bytes.now offset node)) }
-    ensures bits_after { bits.new ≡ stored (paddedLenCall (table kinds.now lefts.now rights.now groups.now count) (record_of bytes.now offset node)) bits.old }
+    ensures value { result ≡ code (padded_len_call (table kinds.now lefts.now rights.now groups.now count) (record_of bytes.now offset node)) }
+    ensures bits_after { bits.new ≡ stored (padded_len_call (table kinds.now lefts.now rights.now groups.now count) (record_of bytes.now offset node)) bits.old }
 {
     tell_count(
         value::padded_len(kinds, lefts, rights, groups, count, bytes, offset, node),

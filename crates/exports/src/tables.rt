@@ -1,7 +1,7 @@
 // Tables for C: from a file, from entries, and the check.
 ghost use Rattle.std.specs.Prelude.{◌≡◌};
 ghost use Rattle.meaning.specs.Tables.{table, columns};
-ghost use Rattle.meaning.specs.TypeCalls.{checkTableCall, fillFactsCall, fillFactsOut, readTableCall, readTableColumnsOut, readTableGroupsOut};
+ghost use Rattle.meaning.specs.TypeCalls.{check_table_call, fill_facts_call, fill_facts_out, read_table_call, read_table_columns_out, read_table_groups_out};
 ghost use Rattle.exports_answers.specs.Codes.{code, stored};
 
 use exports_answers::{tell_count, tell_done};
@@ -16,12 +16,12 @@ pub extern "C" fn qv_read_table(
     groups: &mut [u8],
     count: &mut u64,
 ) -> u64
-    ensures value { result ≡ code (readTableCall file.now (columns kinds.old lefts.old rights.old) groups.old) }
-    ensures count_after { count.new ≡ stored (readTableCall file.now (columns kinds.old lefts.old rights.old) groups.old) count.old }
-    ensures kinds_after { kinds.new ≡ (readTableColumnsOut file.now (columns kinds.old lefts.old rights.old) groups.old).kinds }
-    ensures lefts_after { lefts.new ≡ (readTableColumnsOut file.now (columns kinds.old lefts.old rights.old) groups.old).lefts }
-    ensures rights_after { rights.new ≡ (readTableColumnsOut file.now (columns kinds.old lefts.old rights.old) groups.old).rights }
-    ensures groups_after { groups.new ≡ readTableGroupsOut file.now (columns kinds.old lefts.old rights.old) groups.old }
+    ensures value { result ≡ code (read_table_call file.now (columns kinds.old lefts.old rights.old) groups.old) }
+    ensures count_after { count.new ≡ stored (read_table_call file.now (columns kinds.old lefts.old rights.old) groups.old) count.old }
+    ensures kinds_after { kinds.new ≡ (read_table_columns_out file.now (columns kinds.old lefts.old rights.old) groups.old).kinds }
+    ensures lefts_after { lefts.new ≡ (read_table_columns_out file.now (columns kinds.old lefts.old rights.old) groups.old).lefts }
+    ensures rights_after { rights.new ≡ (read_table_columns_out file.now (columns kinds.old lefts.old rights.old) groups.old).rights }
+    ensures groups_after { groups.new ≡ read_table_groups_out file.now (columns kinds.old lefts.old rights.old) groups.old }
 {
     tell_count(table::read_table(file, kinds, lefts, rights, groups), count)
 }
@@ -35,8 +35,8 @@ pub extern "C" fn qv_fill_facts(
     count: usize,
     groups: &mut [u8],
 ) -> u64
-    ensures value { result ≡ code (fillFactsCall (columns kinds.now lefts.now rights.now) count groups.old) }
-    ensures groups_after { groups.new ≡ fillFactsOut (columns kinds.now lefts.now rights.now) count groups.old }
+    ensures value { result ≡ code (fill_facts_call (columns kinds.now lefts.now rights.now) count groups.old) }
+    ensures groups_after { groups.new ≡ fill_facts_out (columns kinds.now lefts.now rights.now) count groups.old }
 {
     tell_done(table::fill_facts(kinds, lefts, rights, count, groups))
 }
@@ -50,7 +50,7 @@ pub extern "C" fn qv_check_table(
     groups: &[u8],
     count: usize,
 ) -> u64
-    ensures { result ≡ code (checkTableCall (table kinds.now lefts.now rights.now groups.now count)) }
+    ensures { result ≡ code (check_table_call (table kinds.now lefts.now rights.now groups.now count)) }
 {
     tell_done(table::check_table(kinds, lefts, rights, groups, count))
 }

@@ -1,8 +1,8 @@
 // Questions about types, for C.
 ghost use Rattle.std.specs.Prelude.{◌≡◌};
 ghost use Rattle.meaning.specs.Tables.{table};
-ghost use Rattle.meaning.specs.TypeCalls.{factsOfCall, sameTypeCall, isUnitCall, isEmptyCall, typeAsSumCall, typeAsProductCall, padLeftCall, padRightCall};
-ghost use Rattle.exports_answers.specs.Codes.{code, stored, storedFlag, roomy, storedAll, factsList, sidesList};
+ghost use Rattle.meaning.specs.TypeCalls.{facts_of_call, same_type_call, is_unit_call, is_empty_call, type_as_sum_call, type_as_product_call, pad_left_call, pad_right_call};
+ghost use Rattle.exports_answers.specs.Codes.{code, stored, stored_flag, roomy, stored_all, facts_list, sides_list};
 
 use exports_answers::{tell_count, tell_facts, tell_flag, tell_sides};
 
@@ -17,8 +17,8 @@ pub extern "C" fn qv_facts_of(
     node: usize,
     facts: &mut [u64],
 ) -> u64
-    ensures value { result ≡ code (roomy factsList facts.old (factsOfCall (table kinds.now lefts.now rights.now groups.now count) node)) }
-    ensures facts_after { facts.new ≡ storedAll factsList (roomy factsList facts.old (factsOfCall (table kinds.now lefts.now rights.now groups.now count) node)) facts.old }
+    ensures value { result ≡ code (roomy facts_list facts.old (facts_of_call (table kinds.now lefts.now rights.now groups.now count) node)) }
+    ensures facts_after { facts.new ≡ stored_all facts_list (roomy facts_list facts.old (facts_of_call (table kinds.now lefts.now rights.now groups.now count) node)) facts.old }
 {
     tell_facts(
         types::facts_of(kinds, lefts, rights, groups, count, node),
@@ -38,8 +38,8 @@ pub extern "C" fn qv_same_type(
     b: usize,
     answer: &mut u64,
 ) -> u64
-    ensures value { result ≡ code (sameTypeCall (table kinds.now lefts.now rights.now groups.now count) a b) }
-    ensures answer_after { answer.new ≡ storedFlag (sameTypeCall (table kinds.now lefts.now rights.now groups.now count) a b) answer.old }
+    ensures value { result ≡ code (same_type_call (table kinds.now lefts.now rights.now groups.now count) a b) }
+    ensures answer_after { answer.new ≡ stored_flag (same_type_call (table kinds.now lefts.now rights.now groups.now count) a b) answer.old }
 {
     tell_flag(
         types::same_type(kinds, lefts, rights, groups, count, a, b),
@@ -58,8 +58,8 @@ pub extern "C" fn qv_is_unit(
     node: usize,
     answer: &mut u64,
 ) -> u64
-    ensures value { result ≡ code (isUnitCall (table kinds.now lefts.now rights.now groups.now count) node) }
-    ensures answer_after { answer.new ≡ storedFlag (isUnitCall (table kinds.now lefts.now rights.now groups.now count) node) answer.old }
+    ensures value { result ≡ code (is_unit_call (table kinds.now lefts.now rights.now groups.now count) node) }
+    ensures answer_after { answer.new ≡ stored_flag (is_unit_call (table kinds.now lefts.now rights.now groups.now count) node) answer.old }
 {
     tell_flag(
         types::is_unit(kinds, lefts, rights, groups, count, node),
@@ -78,8 +78,8 @@ pub extern "C" fn qv_is_empty(
     node: usize,
     answer: &mut u64,
 ) -> u64
-    ensures value { result ≡ code (isEmptyCall (table kinds.now lefts.now rights.now groups.now count) node) }
-    ensures answer_after { answer.new ≡ storedFlag (isEmptyCall (table kinds.now lefts.now rights.now groups.now count) node) answer.old }
+    ensures value { result ≡ code (is_empty_call (table kinds.now lefts.now rights.now groups.now count) node) }
+    ensures answer_after { answer.new ≡ stored_flag (is_empty_call (table kinds.now lefts.now rights.now groups.now count) node) answer.old }
 {
     tell_flag(
         types::is_empty(kinds, lefts, rights, groups, count, node),
@@ -98,8 +98,8 @@ pub extern "C" fn qv_type_as_sum(
     node: usize,
     sides: &mut [u64],
 ) -> u64
-    ensures value { result ≡ code (roomy sidesList sides.old (typeAsSumCall (table kinds.now lefts.now rights.now groups.now count) node)) }
-    ensures sides_after { sides.new ≡ storedAll sidesList (roomy sidesList sides.old (typeAsSumCall (table kinds.now lefts.now rights.now groups.now count) node)) sides.old }
+    ensures value { result ≡ code (roomy sides_list sides.old (type_as_sum_call (table kinds.now lefts.now rights.now groups.now count) node)) }
+    ensures sides_after { sides.new ≡ stored_all sides_list (roomy sides_list sides.old (type_as_sum_call (table kinds.now lefts.now rights.now groups.now count) node)) sides.old }
 {
     tell_sides(
         types::as_sum(kinds, lefts, rights, groups, count, node),
@@ -118,8 +118,8 @@ pub extern "C" fn qv_type_as_product(
     node: usize,
     sides: &mut [u64],
 ) -> u64
-    ensures value { result ≡ code (roomy sidesList sides.old (typeAsProductCall (table kinds.now lefts.now rights.now groups.now count) node)) }
-    ensures sides_after { sides.new ≡ storedAll sidesList (roomy sidesList sides.old (typeAsProductCall (table kinds.now lefts.now rights.now groups.now count) node)) sides.old }
+    ensures value { result ≡ code (roomy sides_list sides.old (type_as_product_call (table kinds.now lefts.now rights.now groups.now count) node)) }
+    ensures sides_after { sides.new ≡ stored_all sides_list (roomy sides_list sides.old (type_as_product_call (table kinds.now lefts.now rights.now groups.now count) node)) sides.old }
 {
     tell_sides(
         types::as_product(kinds, lefts, rights, groups, count, node),
@@ -139,8 +139,8 @@ pub extern "C" fn qv_pad_left(
     b: usize,
     padding: &mut u64,
 ) -> u64
-    ensures value { result ≡ code (padLeftCall (table kinds.now lefts.now rights.now groups.now count) a b) }
-    ensures padding_after { padding.new ≡ stored (padLeftCall (table kinds.now lefts.now rights.now groups.now count) a b) padding.old }
+    ensures value { result ≡ code (pad_left_call (table kinds.now lefts.now rights.now groups.now count) a b) }
+    ensures padding_after { padding.new ≡ stored (pad_left_call (table kinds.now lefts.now rights.now groups.now count) a b) padding.old }
 {
     tell_count(
         types::pad_left(kinds, lefts, rights, groups, count, a, b),
@@ -160,8 +160,8 @@ pub extern "C" fn qv_pad_right(
     b: usize,
     padding: &mut u64,
 ) -> u64
-    ensures value { result ≡ code (padRightCall (table kinds.now lefts.now rights.now groups.now count) a b) }
-    ensures padding_after { padding.new ≡ stored (padRightCall (table kinds.now lefts.now rights.now groups.now count) a b) padding.old }
+    ensures value { result ≡ code (pad_right_call (table kinds.now lefts.now rights.now groups.now count) a b) }
+    ensures padding_after { padding.new ≡ stored (pad_right_call (table kinds.now lefts.now rights.now groups.now count) a b) padding.old }
 {
     tell_count(
         types::pad_right(kinds, lefts, rights, groups, count, a, b),

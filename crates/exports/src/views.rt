@@ -2,8 +2,8 @@
 ghost use Rattle.std.specs.Prelude.{◌≡◌};
 ghost use Rattle.meaning.specs.Tables.{table};
 ghost use Rattle.meaning.specs.Ladder.{record_of};
-ghost use Rattle.meaning.specs.RecordCalls.{asLeftCall, asRightCall, asProductCall};
-ghost use Rattle.exports_answers.specs.Codes.{code, roomy, storedAll, spotList, spotsList};
+ghost use Rattle.meaning.specs.RecordCalls.{as_left_call, as_right_call, as_product_call};
+ghost use Rattle.exports_answers.specs.Codes.{code, roomy, stored_all, spot_list, spots_list};
 
 use exports_answers::{tell_view, tell_views};
 
@@ -20,8 +20,8 @@ pub extern "C" fn qv_as_left(
     node: usize,
     view: &mut [u64],
 ) -> u64
-    ensures value { result ≡ code (roomy spotList view.old (asLeftCall (table kinds.now lefts.now rights.now groups.now count) (record_of bytes.now offset node))) }
-    ensures view_after { view.new ≡ storedAll spotList (roomy spotList view.old (asLeftCall (table kinds.now lefts.now rights.now groups.now count) (record_of bytes.now offset node))) view.old }
+    ensures value { result ≡ code (roomy spot_list view.old (as_left_call (table kinds.now lefts.now rights.now groups.now count) (record_of bytes.now offset node))) }
+    ensures view_after { view.new ≡ stored_all spot_list (roomy spot_list view.old (as_left_call (table kinds.now lefts.now rights.now groups.now count) (record_of bytes.now offset node))) view.old }
 {
     tell_view(
         value::as_left(kinds, lefts, rights, groups, count, bytes, offset, node),
@@ -42,8 +42,8 @@ pub extern "C" fn qv_as_right(
     node: usize,
     view: &mut [u64],
 ) -> u64
-    ensures value { result ≡ code (roomy spotList view.old (asRightCall (table kinds.now lefts.now rights.now groups.now count) (record_of bytes.now offset node))) }
-    ensures view_after { view.new ≡ storedAll spotList (roomy spotList view.old (asRightCall (table kinds.now lefts.now rights.now groups.now count) (record_of bytes.now offset node))) view.old }
+    ensures value { result ≡ code (roomy spot_list view.old (as_right_call (table kinds.now lefts.now rights.now groups.now count) (record_of bytes.now offset node))) }
+    ensures view_after { view.new ≡ stored_all spot_list (roomy spot_list view.old (as_right_call (table kinds.now lefts.now rights.now groups.now count) (record_of bytes.now offset node))) view.old }
 {
     tell_view(
         value::as_right(kinds, lefts, rights, groups, count, bytes, offset, node),
@@ -64,8 +64,8 @@ pub extern "C" fn qv_as_product(
     node: usize,
     views: &mut [u64],
 ) -> u64
-    ensures value { result ≡ code (roomy spotsList views.old (asProductCall (table kinds.now lefts.now rights.now groups.now count) (record_of bytes.now offset node))) }
-    ensures views_after { views.new ≡ storedAll spotsList (roomy spotsList views.old (asProductCall (table kinds.now lefts.now rights.now groups.now count) (record_of bytes.now offset node))) views.old }
+    ensures value { result ≡ code (roomy spots_list views.old (as_product_call (table kinds.now lefts.now rights.now groups.now count) (record_of bytes.now offset node))) }
+    ensures views_after { views.new ≡ stored_all spots_list (roomy spots_list views.old (as_product_call (table kinds.now lefts.now rights.now groups.now count) (record_of bytes.now offset node))) views.old }
 {
     tell_views(
         value::as_product(kinds, lefts, rights, groups, count, bytes, offset, node),

@@ -1,7 +1,7 @@
 // Words from numbers and from big-endian bytes, for C. Accepted: the width of the result, whose record stands at bit 0 of the output.
 ghost use Rattle.std.specs.Prelude.{◌≡◌};
 ghost use Rattle.meaning.specs.Tables.{table};
-ghost use Rattle.meaning.specs.WordCalls.{numberCall, numberOut, bytesCall, bytesOut, arrayCall, arrayOut};
+ghost use Rattle.meaning.specs.WordCalls.{number_call, number_out, bytes_call, bytes_out, array_call, array_out};
 ghost use Rattle.exports_answers.specs.Codes.{code, stored};
 
 use exports_answers::tell_count;
@@ -19,9 +19,9 @@ pub extern "C" fn qv_u1(
     width: &mut u64,
     out: &mut [u8],
 ) -> u64
-    ensures value { result ≡ code (numberCall (table kinds.now lefts.now rights.now groups.now count) 0 number res out.old) }
-    ensures width_after { width.new ≡ stored (numberCall (table kinds.now lefts.now rights.now groups.now count) 0 number res out.old) width.old }
-    ensures out_after { out.new ≡ numberOut (table kinds.now lefts.now rights.now groups.now count) 0 number res out.old }
+    ensures value { result ≡ code (number_call (table kinds.now lefts.now rights.now groups.now count) 0 number res out.old) }
+    ensures width_after { width.new ≡ stored (number_call (table kinds.now lefts.now rights.now groups.now count) 0 number res out.old) width.old }
+    ensures out_after { out.new ≡ number_out (table kinds.now lefts.now rights.now groups.now count) 0 number res out.old }
 {
     tell_count(
         words::u1(kinds, lefts, rights, groups, count, number, res, out),
@@ -42,9 +42,9 @@ pub extern "C" fn qv_u2(
     width: &mut u64,
     out: &mut [u8],
 ) -> u64
-    ensures value { result ≡ code (numberCall (table kinds.now lefts.now rights.now groups.now count) 1 number res out.old) }
-    ensures width_after { width.new ≡ stored (numberCall (table kinds.now lefts.now rights.now groups.now count) 1 number res out.old) width.old }
-    ensures out_after { out.new ≡ numberOut (table kinds.now lefts.now rights.now groups.now count) 1 number res out.old }
+    ensures value { result ≡ code (number_call (table kinds.now lefts.now rights.now groups.now count) 1 number res out.old) }
+    ensures width_after { width.new ≡ stored (number_call (table kinds.now lefts.now rights.now groups.now count) 1 number res out.old) width.old }
+    ensures out_after { out.new ≡ number_out (table kinds.now lefts.now rights.now groups.now count) 1 number res out.old }
 {
     tell_count(
         words::u2(kinds, lefts, rights, groups, count, number, res, out),
@@ -65,9 +65,9 @@ pub extern "C" fn qv_u4(
     width: &mut u64,
     out: &mut [u8],
 ) -> u64
-    ensures value { result ≡ code (numberCall (table kinds.now lefts.now rights.now groups.now count) 2 number res out.old) }
-    ensures width_after { width.new ≡ stored (numberCall (table kinds.now lefts.now rights.now groups.now count) 2 number res out.old) width.old }
-    ensures out_after { out.new ≡ numberOut (table kinds.now lefts.now rights.now groups.now count) 2 number res out.old }
+    ensures value { result ≡ code (number_call (table kinds.now lefts.now rights.now groups.now count) 2 number res out.old) }
+    ensures width_after { width.new ≡ stored (number_call (table kinds.now lefts.now rights.now groups.now count) 2 number res out.old) width.old }
+    ensures out_after { out.new ≡ number_out (table kinds.now lefts.now rights.now groups.now count) 2 number res out.old }
 {
     tell_count(
         words::u4(kinds, lefts, rights, groups, count, number, res, out),
@@ -88,9 +88,9 @@ pub extern "C" fn qv_u8(
     width: &mut u64,
     out: &mut [u8],
 ) -> u64
-    ensures value { result ≡ code (bytesCall (table kinds.now lefts.now rights.now groups.now count) 3 «data».now res out.old) }
-    ensures width_after { width.new ≡ stored (bytesCall (table kinds.now lefts.now rights.now groups.now count) 3 «data».now res out.old) width.old }
-    ensures out_after { out.new ≡ bytesOut (table kinds.now lefts.now rights.now groups.now count) 3 «data».now res out.old }
+    ensures value { result ≡ code (bytes_call (table kinds.now lefts.now rights.now groups.now count) 3 «data».now res out.old) }
+    ensures width_after { width.new ≡ stored (bytes_call (table kinds.now lefts.now rights.now groups.now count) 3 «data».now res out.old) width.old }
+    ensures out_after { out.new ≡ bytes_out (table kinds.now lefts.now rights.now groups.now count) 3 «data».now res out.old }
 {
     tell_count(
         words::u8(kinds, lefts, rights, groups, count, data, res, out),
@@ -111,9 +111,9 @@ pub extern "C" fn qv_u16(
     width: &mut u64,
     out: &mut [u8],
 ) -> u64
-    ensures value { result ≡ code (bytesCall (table kinds.now lefts.now rights.now groups.now count) 4 «data».now res out.old) }
-    ensures width_after { width.new ≡ stored (bytesCall (table kinds.now lefts.now rights.now groups.now count) 4 «data».now res out.old) width.old }
-    ensures out_after { out.new ≡ bytesOut (table kinds.now lefts.now rights.now groups.now count) 4 «data».now res out.old }
+    ensures value { result ≡ code (bytes_call (table kinds.now lefts.now rights.now groups.now count) 4 «data».now res out.old) }
+    ensures width_after { width.new ≡ stored (bytes_call (table kinds.now lefts.now rights.now groups.now count) 4 «data».now res out.old) width.old }
+    ensures out_after { out.new ≡ bytes_out (table kinds.now lefts.now rights.now groups.now count) 4 «data».now res out.old }
 {
     tell_count(
         words::u16(kinds, lefts, rights, groups, count, data, res, out),
@@ -134,9 +134,9 @@ pub extern "C" fn qv_u32(
     width: &mut u64,
     out: &mut [u8],
 ) -> u64
-    ensures value { result ≡ code (bytesCall (table kinds.now lefts.now rights.now groups.now count) 5 «data».now res out.old) }
-    ensures width_after { width.new ≡ stored (bytesCall (table kinds.now lefts.now rights.now groups.now count) 5 «data».now res out.old) width.old }
-    ensures out_after { out.new ≡ bytesOut (table kinds.now lefts.now rights.now groups.now count) 5 «data».now res out.old }
+    ensures value { result ≡ code (bytes_call (table kinds.now lefts.now rights.now groups.now count) 5 «data».now res out.old) }
+    ensures width_after { width.new ≡ stored (bytes_call (table kinds.now lefts.now rights.now groups.now count) 5 «data».now res out.old) width.old }
+    ensures out_after { out.new ≡ bytes_out (table kinds.now lefts.now rights.now groups.now count) 5 «data».now res out.old }
 {
     tell_count(
         words::u32(kinds, lefts, rights, groups, count, data, res, out),
@@ -157,9 +157,9 @@ pub extern "C" fn qv_u64(
     width: &mut u64,
     out: &mut [u8],
 ) -> u64
-    ensures value { result ≡ code (bytesCall (table kinds.now lefts.now rights.now groups.now count) 6 «data».now res out.old) }
-    ensures width_after { width.new ≡ stored (bytesCall (table kinds.now lefts.now rights.now groups.now count) 6 «data».now res out.old) width.old }
-    ensures out_after { out.new ≡ bytesOut (table kinds.now lefts.now rights.now groups.now count) 6 «data».now res out.old }
+    ensures value { result ≡ code (bytes_call (table kinds.now lefts.now rights.now groups.now count) 6 «data».now res out.old) }
+    ensures width_after { width.new ≡ stored (bytes_call (table kinds.now lefts.now rights.now groups.now count) 6 «data».now res out.old) width.old }
+    ensures out_after { out.new ≡ bytes_out (table kinds.now lefts.now rights.now groups.now count) 6 «data».now res out.old }
 {
     tell_count(
         words::u64(kinds, lefts, rights, groups, count, data, res, out),
@@ -180,9 +180,9 @@ pub extern "C" fn qv_u128(
     width: &mut u64,
     out: &mut [u8],
 ) -> u64
-    ensures value { result ≡ code (bytesCall (table kinds.now lefts.now rights.now groups.now count) 7 «data».now res out.old) }
-    ensures width_after { width.new ≡ stored (bytesCall (table kinds.now lefts.now rights.now groups.now count) 7 «data».now res out.old) width.old }
-    ensures out_after { out.new ≡ bytesOut (table kinds.now lefts.now rights.now groups.now count) 7 «data».now res out.old }
+    ensures value { result ≡ code (bytes_call (table kinds.now lefts.now rights.now groups.now count) 7 «data».now res out.old) }
+    ensures width_after { width.new ≡ stored (bytes_call (table kinds.now lefts.now rights.now groups.now count) 7 «data».now res out.old) width.old }
+    ensures out_after { out.new ≡ bytes_out (table kinds.now lefts.now rights.now groups.now count) 7 «data».now res out.old }
 {
     tell_count(
         words::u128(kinds, lefts, rights, groups, count, data, res, out),
@@ -203,9 +203,9 @@ pub extern "C" fn qv_u256(
     width: &mut u64,
     out: &mut [u8],
 ) -> u64
-    ensures value { result ≡ code (bytesCall (table kinds.now lefts.now rights.now groups.now count) 8 «data».now res out.old) }
-    ensures width_after { width.new ≡ stored (bytesCall (table kinds.now lefts.now rights.now groups.now count) 8 «data».now res out.old) width.old }
-    ensures out_after { out.new ≡ bytesOut (table kinds.now lefts.now rights.now groups.now count) 8 «data».now res out.old }
+    ensures value { result ≡ code (bytes_call (table kinds.now lefts.now rights.now groups.now count) 8 «data».now res out.old) }
+    ensures width_after { width.new ≡ stored (bytes_call (table kinds.now lefts.now rights.now groups.now count) 8 «data».now res out.old) width.old }
+    ensures out_after { out.new ≡ bytes_out (table kinds.now lefts.now rights.now groups.now count) 8 «data».now res out.old }
 {
     tell_count(
         words::u256(kinds, lefts, rights, groups, count, data, res, out),
@@ -226,9 +226,9 @@ pub extern "C" fn qv_u512(
     width: &mut u64,
     out: &mut [u8],
 ) -> u64
-    ensures value { result ≡ code (bytesCall (table kinds.now lefts.now rights.now groups.now count) 9 «data».now res out.old) }
-    ensures width_after { width.new ≡ stored (bytesCall (table kinds.now lefts.now rights.now groups.now count) 9 «data».now res out.old) width.old }
-    ensures out_after { out.new ≡ bytesOut (table kinds.now lefts.now rights.now groups.now count) 9 «data».now res out.old }
+    ensures value { result ≡ code (bytes_call (table kinds.now lefts.now rights.now groups.now count) 9 «data».now res out.old) }
+    ensures width_after { width.new ≡ stored (bytes_call (table kinds.now lefts.now rights.now groups.now count) 9 «data».now res out.old) width.old }
+    ensures out_after { out.new ≡ bytes_out (table kinds.now lefts.now rights.now groups.now count) 9 «data».now res out.old }
 {
     tell_count(
         words::u512(kinds, lefts, rights, groups, count, data, res, out),
@@ -249,9 +249,9 @@ pub extern "C" fn qv_from_byte_array(
     width: &mut u64,
     out: &mut [u8],
 ) -> u64
-    ensures value { result ≡ code (arrayCall (table kinds.now lefts.now rights.now groups.now count) «data».now res out.old) }
-    ensures width_after { width.new ≡ stored (arrayCall (table kinds.now lefts.now rights.now groups.now count) «data».now res out.old) width.old }
-    ensures out_after { out.new ≡ arrayOut (table kinds.now lefts.now rights.now groups.now count) «data».now res out.old }
+    ensures value { result ≡ code (array_call (table kinds.now lefts.now rights.now groups.now count) «data».now res out.old) }
+    ensures width_after { width.new ≡ stored (array_call (table kinds.now lefts.now rights.now groups.now count) «data».now res out.old) width.old }
+    ensures out_after { out.new ≡ array_out (table kinds.now lefts.now rights.now groups.now count) «data».now res out.old }
 {
     tell_count(
         words::from_byte_array(kinds, lefts, rights, groups, count, data, res, out),

@@ -1,8 +1,8 @@
 // Questions about word types, buffer types and the hash state's type, for C.
 ghost use Rattle.std.specs.Prelude.{◌≡◌};
 ghost use Rattle.meaning.specs.Tables.{table};
-ghost use Rattle.meaning.specs.TypeCalls.{asWordCall, wordWidthCall, bufferWidthCall, isBuffer8Call, isCtx8Call};
-ghost use Rattle.exports_answers.specs.Codes.{code, stored, storedFlag};
+ghost use Rattle.meaning.specs.TypeCalls.{as_word_call, word_width_call, buffer_width_call, is_buffer8_call, is_ctx8_call};
+ghost use Rattle.exports_answers.specs.Codes.{code, stored, stored_flag};
 
 use exports_answers::{tell_count, tell_flag};
 
@@ -17,8 +17,8 @@ pub extern "C" fn qv_as_word(
     node: usize,
     n: &mut u64,
 ) -> u64
-    ensures value { result ≡ code (asWordCall (table kinds.now lefts.now rights.now groups.now count) node) }
-    ensures n_after { n.new ≡ stored (asWordCall (table kinds.now lefts.now rights.now groups.now count) node) n.old }
+    ensures value { result ≡ code (as_word_call (table kinds.now lefts.now rights.now groups.now count) node) }
+    ensures n_after { n.new ≡ stored (as_word_call (table kinds.now lefts.now rights.now groups.now count) node) n.old }
 {
     tell_count(
         word_types::as_word(kinds, lefts, rights, groups, count, node),
@@ -29,8 +29,8 @@ pub extern "C" fn qv_as_word(
 // Accepted: the width of word type n.
 #[unsafe(no_mangle)]
 pub extern "C" fn qv_word_width(n: usize, width: &mut u64) -> u64
-    ensures value { result ≡ code (wordWidthCall n) }
-    ensures width_after { width.new ≡ stored (wordWidthCall n) width.old }
+    ensures value { result ≡ code (word_width_call n) }
+    ensures width_after { width.new ≡ stored (word_width_call n) width.old }
 {
     tell_count(word_types::word_width(n), width)
 }
@@ -38,8 +38,8 @@ pub extern "C" fn qv_word_width(n: usize, width: &mut u64) -> u64
 // Accepted: the width of buffer type n.
 #[unsafe(no_mangle)]
 pub extern "C" fn qv_buffer_width(n: usize, width: &mut u64) -> u64
-    ensures value { result ≡ code (bufferWidthCall n) }
-    ensures width_after { width.new ≡ stored (bufferWidthCall n) width.old }
+    ensures value { result ≡ code (buffer_width_call n) }
+    ensures width_after { width.new ≡ stored (buffer_width_call n) width.old }
 {
     tell_count(word_types::buffer_width(n), width)
 }
@@ -56,8 +56,8 @@ pub extern "C" fn qv_is_buffer8(
     n: usize,
     answer: &mut u64,
 ) -> u64
-    ensures value { result ≡ code (isBuffer8Call (table kinds.now lefts.now rights.now groups.now count) node n) }
-    ensures answer_after { answer.new ≡ storedFlag (isBuffer8Call (table kinds.now lefts.now rights.now groups.now count) node n) answer.old }
+    ensures value { result ≡ code (is_buffer8_call (table kinds.now lefts.now rights.now groups.now count) node n) }
+    ensures answer_after { answer.new ≡ stored_flag (is_buffer8_call (table kinds.now lefts.now rights.now groups.now count) node n) answer.old }
 {
     tell_flag(
         word_types::is_buffer8(kinds, lefts, rights, groups, count, node, n),
@@ -76,8 +76,8 @@ pub extern "C" fn qv_is_ctx8(
     node: usize,
     answer: &mut u64,
 ) -> u64
-    ensures value { result ≡ code (isCtx8Call (table kinds.now lefts.now rights.now groups.now count) node) }
-    ensures answer_after { answer.new ≡ storedFlag (isCtx8Call (table kinds.now lefts.now rights.now groups.now count) node) answer.old }
+    ensures value { result ≡ code (is_ctx8_call (table kinds.now lefts.now rights.now groups.now count) node) }
+    ensures answer_after { answer.new ≡ stored_flag (is_ctx8_call (table kinds.now lefts.now rights.now groups.now count) node) answer.old }
 {
     tell_flag(
         word_types::is_ctx8(kinds, lefts, rights, groups, count, node),

@@ -1,7 +1,7 @@
 -- What a caller reads off a result.
 --
---   number-again place-again    number and place come apart again
---   refused-code                a refusal is never 0
+--   number_again place_again    number and place come apart again
+--   refused_code                a refusal is never 0
 -- Assumes nothing.
 use Prim.Native.Nat.{ℕ, ◌/◌, ◌%◌, ◌≤◌, ◌<◌}
 use mathlib.Core.Path.{◌≡◌}
@@ -11,11 +11,11 @@ use Rattle.exports_answers.specs.Codes.{code}
 
 -- The results of refusals, whatever would have been accepted.
 module _ (A : Type 0) (n p : ℕ) where
-  pub number-again : n < 256 → code {A = A} (refused n p) % 256 ≡ n
-  number-again l = omega arith
+  pub number_again : n < 256 → code {A = A} (refused n p) % 256 ≡ n
+  number_again l = omega arith
 
-  pub place-again : n < 256 → code {A = A} (refused n p) / 256 ≡ p
-  place-again l = omega arith
+  pub place_again : n < 256 → code {A = A} (refused n p) / 256 ≡ p
+  place_again l = omega arith
 
-  pub refused-code : 1 ≤ n → code {A = A} (refused n p) ≡ 0 → ⊥
-  refused-code l e = omega arith
+  pub refused_code : 1 ≤ n → code {A = A} (refused n p) ≡ 0 → ⊥
+  refused_code l e = omega arith

@@ -2,8 +2,8 @@
 // stores nothing. Inner: a refusal's place is a node or an offset of a table's file, so that number and place fit 64 bits.
 ghost use Rattle.std.specs.Prelude.{◌≡◌, cond, ◌++◌, ◌+◌, ◌*◌, ◌<◌, length, drop, ltb};
 ghost use Rattle.meaning.specs.Tables.{digit};
-ghost use Rattle.answers.specs.Verdicts.{done_of, count_of, flagOf, sidesOf, facts_of, spot_of, spotsOf, order, order_of};
-ghost use Rattle.exports_answers.specs.Codes.{code, Near, stored, storedFlag, rank, storedOrder, roomy, storedAll, factsList, sidesList, spotList, spotsList};
+ghost use Rattle.answers.specs.Verdicts.{done_of, count_of, flag_of, sides_of, facts_of, spot_of, spots_of, order, order_of};
+ghost use Rattle.exports_answers.specs.Codes.{code, Near, stored, stored_flag, rank, stored_order, roomy, stored_all, facts_list, sides_list, spot_list, spots_list};
 
 use answers::{
     Count, Done, FactsAnswer, Flag, Order, OrderAnswer, Refusal, SidesAnswer, SpotAnswer,
@@ -77,9 +77,9 @@ pub fn tell_count(answer: Count, value: &mut u64) -> u64
 }
 
 pub fn tell_flag(answer: Flag, value: &mut u64) -> u64
-    requires { Near (flagOf answer) }
-    ensures value { result ≡ code (flagOf answer) }
-    ensures value_after { value.new ≡ storedFlag (flagOf answer) value.old }
+    requires { Near (flag_of answer) }
+    ensures value { result ≡ code (flag_of answer) }
+    ensures value_after { value.new ≡ stored_flag (flag_of answer) value.old }
 {
     match answer {
         Flag::Is(b) => {
@@ -93,7 +93,7 @@ pub fn tell_flag(answer: Flag, value: &mut u64) -> u64
 pub fn tell_order(answer: OrderAnswer, value: &mut u64) -> u64
     requires { Near (order_of answer) }
     ensures value { result ≡ code (order_of answer) }
-    ensures value_after { value.new ≡ storedOrder (order_of answer) value.old }
+    ensures value_after { value.new ≡ stored_order (order_of answer) value.old }
 {
     match answer {
         OrderAnswer::Is(o) => {
@@ -106,8 +106,8 @@ pub fn tell_order(answer: OrderAnswer, value: &mut u64) -> u64
 
 pub fn tell_facts(answer: FactsAnswer, lent: &mut [u64]) -> u64
     requires { Near (facts_of answer) }
-    ensures value { result ≡ code (roomy factsList lent.old (facts_of answer)) }
-    ensures lent_after { lent.new ≡ storedAll factsList (roomy factsList lent.old (facts_of answer)) lent.old }
+    ensures value { result ≡ code (roomy facts_list lent.old (facts_of answer)) }
+    ensures lent_after { lent.new ≡ stored_all facts_list (roomy facts_list lent.old (facts_of answer)) lent.old }
 {
     match answer {
         FactsAnswer::Are(f) => {
@@ -128,9 +128,9 @@ pub fn tell_facts(answer: FactsAnswer, lent: &mut [u64]) -> u64
 }
 
 pub fn tell_sides(answer: SidesAnswer, lent: &mut [u64]) -> u64
-    requires { Near (sidesOf answer) }
-    ensures value { result ≡ code (roomy sidesList lent.old (sidesOf answer)) }
-    ensures lent_after { lent.new ≡ storedAll sidesList (roomy sidesList lent.old (sidesOf answer)) lent.old }
+    requires { Near (sides_of answer) }
+    ensures value { result ≡ code (roomy sides_list lent.old (sides_of answer)) }
+    ensures lent_after { lent.new ≡ stored_all sides_list (roomy sides_list lent.old (sides_of answer)) lent.old }
 {
     match answer {
         SidesAnswer::Are(s) => {
@@ -143,8 +143,8 @@ pub fn tell_sides(answer: SidesAnswer, lent: &mut [u64]) -> u64
 
 pub fn tell_view(answer: SpotAnswer, lent: &mut [u64]) -> u64
     requires { Near (spot_of answer) }
-    ensures value { result ≡ code (roomy spotList lent.old (spot_of answer)) }
-    ensures lent_after { lent.new ≡ storedAll spotList (roomy spotList lent.old (spot_of answer)) lent.old }
+    ensures value { result ≡ code (roomy spot_list lent.old (spot_of answer)) }
+    ensures lent_after { lent.new ≡ stored_all spot_list (roomy spot_list lent.old (spot_of answer)) lent.old }
 {
     match answer {
         SpotAnswer::At(s) => {
@@ -156,9 +156,9 @@ pub fn tell_view(answer: SpotAnswer, lent: &mut [u64]) -> u64
 }
 
 pub fn tell_views(answer: SpotsAnswer, lent: &mut [u64]) -> u64
-    requires { Near (spotsOf answer) }
-    ensures value { result ≡ code (roomy spotsList lent.old (spotsOf answer)) }
-    ensures lent_after { lent.new ≡ storedAll spotsList (roomy spotsList lent.old (spotsOf answer)) lent.old }
+    requires { Near (spots_of answer) }
+    ensures value { result ≡ code (roomy spots_list lent.old (spots_of answer)) }
+    ensures lent_after { lent.new ≡ stored_all spots_list (roomy spots_list lent.old (spots_of answer)) lent.old }
 {
     match answer {
         SpotsAnswer::At(a, b) => {

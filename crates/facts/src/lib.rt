@@ -1,8 +1,8 @@
 // The facts of a lent table: the first node with anything wrong, and the groups of facts filled in.
 // Each node is judged by the facts of earlier ones, so one pass does.
 ghost use Rattle.std.specs.Prelude.{◌≡◌, ◌+◌};
-ghost use Rattle.meaning.specs.Tables.{columns, table, firstBad};
-ghost use Rattle.meaning.specs.TypeCalls.{groupsWritten};
+ghost use Rattle.meaning.specs.Tables.{columns, table, first_bad};
+ghost use Rattle.meaning.specs.TypeCalls.{groups_written};
 ghost use Rattle.facts.specs.Known.{FullReach, Ready, Fillable};
 ghost use Rattle.facts_sides.specs.Derived.{Derived};
 
@@ -53,7 +53,7 @@ fn facts_at(
 // The first node whose entry or any of whose facts is wrong, or the count.
 pub fn first_bad(kinds: &[u8], lefts: &[u16], rights: &[u16], groups: &[u8], count: usize) -> usize
     requires { FullReach (columns kinds.now lefts.now rights.now) groups.now count }
-    ensures { result ≡ firstBad (table kinds.now lefts.now rights.now groups.now count) }
+    ensures { result ≡ first_bad (table kinds.now lefts.now rights.now groups.now count) }
 {
     let mut heads = [0u16; 1024];
     let mut links = [0u16; 1024];
@@ -75,7 +75,7 @@ pub fn first_bad(kinds: &[u8], lefts: &[u16], rights: &[u16], groups: &[u8], cou
 // Fills in the groups of a table whose entries are right.
 pub fn fill(kinds: &[u8], lefts: &[u16], rights: &[u16], count: usize, groups: &mut [u8])
     requires { Fillable (columns kinds.now lefts.now rights.now) groups.old count }
-    ensures { groups.new ≡ groupsWritten (columns kinds.now lefts.now rights.now) count groups.old }
+    ensures { groups.new ≡ groups_written (columns kinds.now lefts.now rights.now) count groups.old }
 {
     let mut heads = [0u16; 1024];
     let mut links = [0u16; 1024];

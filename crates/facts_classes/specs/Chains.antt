@@ -32,11 +32,11 @@ pub record Keyed (c : Columns) (k a b m : ℕ) : Type 0 where
   pub own : class_of c m ≡ m
   pub same_kind : kind c m ≡ k
   pub same_left : class_of c (left c m) ≡ a
-  pub same-right : class_of c (right c m) ≡ b
+  pub same_right : class_of c (right c m) ≡ b
 
 -- Each slot starts at its last node below n, and each node of its own class goes on to the one before it.
 pub record Chained (c : Columns) (heads links : List ℕ) (n : ℕ) : Type 0 where
-  pub all-heads : length heads ≡ 1024
-  pub all-links : length links ≡ 1024
+  pub all_heads : length heads ≡ 1024
+  pub all_links : length links ≡ 1024
   pub starts : (h : ℕ) → h < 1024 → Last (InSlot c h) n (get_or heads h 0)
   pub goes_on : (m : ℕ) → m < n → class_of c m ≡ m → Last (InSlot c (slot_at c m)) m (get_or links m 0)

@@ -6,6 +6,6 @@ use Rattle.meaning.specs.Tables.{Columns}
 
 -- The columns of the entries reach the count.
 pub record Reach (c : Columns) (n : ℕ) : Type 0 where
-  pub kinds-reach : n ≤ length c.kinds
-  pub lefts-reach : n ≤ length c.lefts
-  pub rights-reach : n ≤ length c.rights
+  pub kinds_reach : n ≤ length c.kinds
+  pub lefts_reach : n ≤ length c.lefts
+  pub rights_reach : n ≤ length c.rights

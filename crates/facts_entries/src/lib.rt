@@ -1,11 +1,11 @@
 // The entries of a lent table: whether one is right, and the first wrong one.
 ghost use Rattle.std.specs.Prelude.{◌≡◌};
-ghost use Rattle.meaning.specs.Tables.{columns, sidesRight, firstBadEntry};
+ghost use Rattle.meaning.specs.Tables.{columns, sides_right, first_bad_entry};
 ghost use Rattle.facts_entries.specs.Reach.{Reach};
 
 // The sides that a kind allows at node n.
 pub fn entry_right(kind: u8, n: usize, l: u16, r: u16) -> bool
-    ensures { result ≡ sidesRight kind n l r }
+    ensures { result ≡ sides_right kind n l r }
 {
     if kind == 0 {
         if l != 0 {
@@ -25,7 +25,7 @@ pub fn entry_right(kind: u8, n: usize, l: u16, r: u16) -> bool
 // The first node whose entry is wrong, or the count.
 pub fn first_bad_entry(kinds: &[u8], lefts: &[u16], rights: &[u16], count: usize) -> usize
     requires { Reach (columns kinds.now lefts.now rights.now) count }
-    ensures { result ≡ firstBadEntry (columns kinds.now lefts.now rights.now) count }
+    ensures { result ≡ first_bad_entry (columns kinds.now lefts.now rights.now) count }
 {
     let mut k = 0;
     while k < count {

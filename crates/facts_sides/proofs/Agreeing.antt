@@ -7,7 +7,7 @@ use mathlib.Core.Path.{◌≡◌}
 use mathlib.Core.Bool.{Bool, ◌&&◌}
 use lib.ListN.{get_or}
 use lib.Dec.{eqb}
-use Rattle.meaning.specs.Tables.{Columns, Facts, factsRight}
+use Rattle.meaning.specs.Tables.{Columns, Facts, facts_right}
 use Rattle.facts_sides.specs.Derived.{Derived}
 use Rattle.facts_sides.specs.declared.Found.{Found}
 
@@ -21,12 +21,12 @@ alike f n r =
     && eqb (get_or f.leasts n 0) r.least
 
 -- They are exactly if they are right.
-pub alike_right : (c : Columns) (f : Facts) (n : ℕ) (r : Found) → Derived c n r → alike f n r ≡ factsRight c f n
-unfolding factsRight
+pub alike_right : (c : Columns) (f : Facts) (n : ℕ) (r : Found) → Derived c n r → alike f n r ≡ facts_right c f n
+unfolding facts_right
 alike_right c f n r t =
     let w = t.width_is in
     let s = t.size_is in
-    let p = t.padded-is in
-    let q = t.class-is in
-    let l = t.least-is in
+    let p = t.padded_is in
+    let q = t.class_is in
+    let l = t.least_is in
     rw (w, s, p, q, l)

@@ -1,9 +1,9 @@
 // The facts of a node by those of its two sides; the facts of a side, and whether a node's facts are those found, by the groups.
 ghost use Rattle.std.specs.Prelude.{◌≡◌, true, ◌+◌, ◌*◌, ◌≤◌, max, min, length};
 ghost use Rattle.meaning.specs.Types as types;
-ghost use Rattle.meaning.specs.Groups.{groupSize};
-ghost use Rattle.meaning.specs.Tables.{Columns, factsIn, factsRight};
-ghost use Rattle.facts_sides.specs.Sides.{width_by, sizeBy, paddedBy, leastBy};
+ghost use Rattle.meaning.specs.Groups.{group_size};
+ghost use Rattle.meaning.specs.Tables.{Columns, facts_in, facts_right};
+ghost use Rattle.facts_sides.specs.Sides.{width_by, size_by, padded_by, least_by};
 ghost use Rattle.facts_sides.specs.Derived.{SideDerived, Derived};
 
 // What is found of a node: its width, size, padded byte, class and least length, and the slot of its key.
@@ -69,14 +69,14 @@ pub fn width_by(kind: u8, a: u64, b: u64) -> u64
 
 // The size of a sum or a product, by the sizes of its sides.
 pub fn size_by(a: u64, b: u64) -> u64
-    ensures { result ≡ sizeBy a b }
+    ensures { result ≡ size_by a b }
 {
     stop(1, stop(a, b))
 }
 
 // The padded byte of a sum or a product, by the padded bytes and the widths of its sides.
 pub fn padded_by(kind: u8, p: u8, q: u8, a: u64, b: u64) -> u8
-    ensures { result ≡ paddedBy kind p q a b }
+    ensures { result ≡ padded_by kind p q a b }
 {
     if p != 0 {
         return 1;
@@ -95,7 +95,7 @@ pub fn padded_by(kind: u8, p: u8, q: u8, a: u64, b: u64) -> u8
 
 // The least compact length of a sum or a product, by those of its sides.
 pub fn least_by(kind: u8, a: u64, b: u64) -> u64
-    ensures { result ≡ leastBy kind a b }
+    ensures { result ≡ least_by kind a b }
 {
     if kind == 1 {
         return stop(1, smaller(a, b));
@@ -105,8 +105,8 @@ pub fn least_by(kind: u8, a: u64, b: u64) -> u64
 
 // The facts of an earlier node, as its group has them.
 pub fn side_at(groups: &[u8], k: usize) -> Side
-    requires { groupSize * (k + 1) ≤ length groups.now }
-    ensures { (c : Columns) → factsRight c (factsIn groups.now) k ≡ true → SideDerived c k result }
+    requires { group_size * (k + 1) ≤ length groups.now }
+    ensures { (c : Columns) → facts_right c (facts_in groups.now) k ≡ true → SideDerived c k result }
 {
     Side {
         width: groups::width_at(groups, k),
@@ -119,8 +119,8 @@ pub fn side_at(groups: &[u8], k: usize) -> Side
 
 // The facts of node n, as its group has them, are those found.
 pub fn agrees(groups: &[u8], n: usize, f: Found) -> bool
-    requires { groupSize * (n + 1) ≤ length groups.now }
-    ensures { (c : Columns) → Derived c n f → result ≡ factsRight c (factsIn groups.now) n }
+    requires { group_size * (n + 1) ≤ length groups.now }
+    ensures { (c : Columns) → Derived c n f → result ≡ facts_right c (facts_in groups.now) n }
 {
     if groups::width_at(groups, n) != f.width {
         return false;

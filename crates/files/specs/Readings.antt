@@ -1,12 +1,12 @@
 -- Which reading of document 01's file form each value of an enum stands for, and what a file must be to have its nodes written.
 --
 --   node_of                      a node read
---   judgedOf fileVerdict        the verdict on a whole file: the count of its nodes, or refusal 1 with its place
+--   judged_of file_verdict      the verdict on a whole file: the count of its nodes, or refusal 1 with its place
 --   Readable                    a file with no fault, and columns that reach its count
 use Rattle.std.specs.Prelude.{ℕ, ◌≤◌, ◌≡◌, List, length}
 use Rattle.meaning.specs.Files as file
-use Rattle.meaning.specs.Files.{Reading, faulty, found, tableIn}
-use Rattle.meaning.specs.TypeCalls.{entriesIn}
+use Rattle.meaning.specs.Files.{Reading, faulty, found, table_in}
+use Rattle.meaning.specs.TypeCalls.{entries_in}
 use Rattle.meaning.specs.Ladder.{Answer, refused, accepted}
 use Rattle.files.specs.declared.Entry.{Entry}
 use Rattle.files.specs.declared.Node.{Node}
@@ -22,18 +22,18 @@ node_of (Node.Is e next) = found (entry_of e) next
 node_of (Node.Fault p) = faulty p
 
 -- The verdict that an answer stands for.
-abbrev pub judgedOf : Judged → Answer ℕ
-judgedOf (Judged.Sound n) = accepted n
-judgedOf (Judged.Fault p) = refused 1 p
+abbrev pub judged_of : Judged → Answer ℕ
+judged_of (Judged.Sound n) = accepted n
+judged_of (Judged.Fault p) = refused 1 p
 
 -- The verdict on a whole file.
-abbrev pub fileVerdict : Reading (List file.Entry) → Answer ℕ
-fileVerdict (faulty p) = refused 1 p
-fileVerdict (found es at) = accepted (length es)
+abbrev pub file_verdict : Reading (List file.Entry) → Answer ℕ
+file_verdict (faulty p) = refused 1 p
+file_verdict (found es at) = accepted (length es)
 
 -- A file with no fault, and columns that reach the count of its nodes.
 pub record Readable (file kinds lefts rights : List ℕ) : Type 0 where
-  pub no-fault : fileVerdict (tableIn file) ≡ accepted (length (entriesIn (tableIn file)))
-  pub kinds-reach : length (entriesIn (tableIn file)) ≤ length kinds
-  pub lefts-reach : length (entriesIn (tableIn file)) ≤ length lefts
-  pub rights-reach : length (entriesIn (tableIn file)) ≤ length rights
+  pub no_fault : file_verdict (table_in file) ≡ accepted (length (entries_in (table_in file)))
+  pub kinds_reach : length (entries_in (table_in file)) ≤ length kinds
+  pub lefts_reach : length (entries_in (table_in file)) ≤ length lefts
+  pub rights_reach : length (entries_in (table_in file)) ≤ length rights

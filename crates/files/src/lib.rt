@@ -2,9 +2,9 @@
 // `judge_file` only reads; `write_columns` is for a file that was judged sound and columns that reach its count.
 ghost use Rattle.std.specs.Prelude.{◌≡◌, ◌≤◌};
 ghost use Rattle.meaning.specs.Tables.{columns};
-ghost use Rattle.meaning.specs.Files.{entryFrom, tableIn};
-ghost use Rattle.meaning.specs.TypeCalls.{entriesIn, entriesWritten};
-ghost use Rattle.files.specs.Readings.{node_of, judgedOf, fileVerdict, Readable};
+ghost use Rattle.meaning.specs.Files.{entry_from, table_in};
+ghost use Rattle.meaning.specs.TypeCalls.{entries_in, entries_written};
+ghost use Rattle.files.specs.Readings.{node_of, judged_of, file_verdict, Readable};
 
 use files_numbers::{Number, count_of, number_below};
 
@@ -33,7 +33,7 @@ pub enum Judged {
 // The node numbered n, whose kind stands at an offset.
 fn node_at(file: &[u8], n: usize, at: usize) -> Node
     requires { n ≤ 1024 }
-    ensures { node_of result ≡ entryFrom file.now n at }
+    ensures { node_of result ≡ entry_from file.now n at }
 {
     let Number::Is(kind, left_at) = number_below(file, at, 3) else {
         return Node::Fault(at);
@@ -66,7 +66,7 @@ fn node_at(file: &[u8], n: usize, at: usize) -> Node
 
 // Reads the whole file once, and says how many nodes it has or where its first fault stands.
 pub fn judge_file(file: &[u8]) -> Judged
-    ensures { judgedOf result ≡ fileVerdict (tableIn file.now) }
+    ensures { judged_of result ≡ file_verdict (table_in file.now) }
 {
     let Number::Is(count, start) = count_of(file) else {
         return Judged::Fault(0);
@@ -90,7 +90,7 @@ pub fn judge_file(file: &[u8]) -> Judged
 pub fn write_columns(file: &[u8], kinds: &mut [u8], lefts: &mut [u16], rights: &mut [u16])
     requires { Readable file.now kinds.old lefts.old rights.old }
     ensures { columns kinds.new lefts.new rights.new
-        ≡ entriesWritten (entriesIn (tableIn file.now)) (columns kinds.old lefts.old rights.old) }
+        ≡ entries_written (entries_in (table_in file.now)) (columns kinds.old lefts.old rights.old) }
 {
     let Number::Is(count, start) = count_of(file) else {
         return;

@@ -1,9 +1,9 @@
 -- Laws of a number in a file.
 --
---   numberAt-gone numberAt-one numberAt-cut numberAt-short numberAt-third numberAt-two
+--   number_at_gone number_at_one number_at_cut number_at_short number_at_third number_at_two
 --                               what a number is, by the bytes at its offset
 --   in-range out_of_range       a number that is found, in its range or not
---   number-faulty               a number that is not found
+--   number_faulty               a number that is not found
 -- Assumes nothing.
 use Prim.Native.Nat.{ℕ, ◌+◌, ◌*◌, ◌%◌, ◌≤◌, ◌<◌}
 use mathlib.Core.Path.{◌≡◌, ap}
@@ -12,29 +12,29 @@ use mathlib.Core.List.{List}
 use native.Mathlib.Omega.{arith}
 use lib.ListN.{length, get_or}
 use borrow.Author.Tests.{lt-ltb, le-ltb, le-leb, lt-leb}
-use Rattle.meaning.specs.Files.{faulty, found, sevenBitGroups, number_at, number}
+use Rattle.meaning.specs.Files.{faulty, found, seven_bit_groups, number_at, number}
 
 -- No byte of it is there.
-pub numberAt-gone : (file : List ℕ) (at : ℕ) → length file ≤ at → faulty at ≡ number_at file at
-unfolding sevenBitGroups
-numberAt-gone file at h = simp (le-ltb at (length file) h)
+pub number_at_gone : (file : List ℕ) (at : ℕ) → length file ≤ at → faulty at ≡ number_at file at
+unfolding seven_bit_groups
+number_at_gone file at h = simp (le-ltb at (length file) h)
 
 -- One group.
-pub numberAt-one : (file : List ℕ) (at : ℕ) → at < length file → get_or file at 0 < 128 → found (get_or file at 0) (at + 1) ≡ number_at file at
-unfolding sevenBitGroups
-numberAt-one file at h one = simp (lt-ltb at (length file) h, lt-ltb (get_or file at 0) 128 one)
+pub number_at_one : (file : List ℕ) (at : ℕ) → at < length file → get_or file at 0 < 128 → found (get_or file at 0) (at + 1) ≡ number_at file at
+unfolding seven_bit_groups
+number_at_one file at h one = simp (lt-ltb at (length file) h, lt-ltb (get_or file at 0) 128 one)
 
 -- A first group that another must follow: the second decides.
 module _ (file : List ℕ) (at : ℕ) (h : at < length file) (more : 128 ≤ get_or file at 0) where
   -- The file ends before it.
-  pub numberAt-cut : length file ≤ at + 1 → faulty at ≡ number_at file at
-  unfolding sevenBitGroups
-  numberAt-cut e = simp (lt-ltb at (length file) h, le-ltb (get_or file at 0) 128 more, le-ltb (at + 1) (length file) e)
+  pub number_at_cut : length file ≤ at + 1 → faulty at ≡ number_at file at
+  unfolding seven_bit_groups
+  number_at_cut e = simp (lt-ltb at (length file) h, le-ltb (get_or file at 0) 128 more, le-ltb (at + 1) (length file) e)
 
   -- It is 0, so one group was enough.
-  pub numberAt-short : at + 1 < length file → get_or file (at + 1) 0 < 1 → faulty at ≡ number_at file at
-  unfolding sevenBitGroups
-  numberAt-short e s =
+  pub number_at_short : at + 1 < length file → get_or file (at + 1) 0 < 1 → faulty at ≡ number_at file at
+  unfolding seven_bit_groups
+  number_at_short e s =
       simp (
         lt-ltb at (length file) h,
         le-ltb (get_or file at 0) 128 more,
@@ -44,9 +44,9 @@ module _ (file : List ℕ) (at : ℕ) (h : at < length file) (more : 128 ≤ get
       )
 
   -- It says that a third follows.
-  pub numberAt-third : at + 1 < length file → 1 ≤ get_or file (at + 1) 0 → 128 ≤ get_or file (at + 1) 0 → faulty at ≡ number_at file at
-  unfolding sevenBitGroups
-  numberAt-third e s t =
+  pub number_at_third : at + 1 < length file → 1 ≤ get_or file (at + 1) 0 → 128 ≤ get_or file (at + 1) 0 → faulty at ≡ number_at file at
+  unfolding seven_bit_groups
+  number_at_third e s t =
       simp (
         lt-ltb at (length file) h,
         le-ltb (get_or file at 0) 128 more,
@@ -55,10 +55,10 @@ module _ (file : List ℕ) (at : ℕ) (h : at < length file) (more : 128 ≤ get
       )
 
   -- Two groups.
-  pub numberAt-two : at + 1 < length file → 1 ≤ get_or file (at + 1) 0 → get_or file (at + 1) 0 < 128
+  pub number_at_two : at + 1 < length file → 1 ≤ get_or file (at + 1) 0 → get_or file (at + 1) 0 < 128
       → found (get_or file at 0 % 128 + 128 * get_or file (at + 1) 0) (at + 2) ≡ number_at file at
-  unfolding sevenBitGroups
-  numberAt-two e s t =
+  unfolding seven_bit_groups
+  number_at_two e s t =
       simp (
         lt-ltb at (length file) h,
         le-ltb (get_or file at 0) 128 more,
@@ -79,5 +79,5 @@ module _ (p : ℕ → Bool) (file : List ℕ) (at : ℕ) where
   pub out_of_range : (n next : ℕ) → found n next ≡ number_at file at → p n ≡ false → faulty at ≡ number p file at
   out_of_range n next e t = rw (← e, t)
 
-  pub number-faulty : faulty at ≡ number_at file at → faulty at ≡ number p file at
-  number-faulty e = rw (← e)
+  pub number_faulty : faulty at ≡ number_at file at → faulty at ≡ number p file at
+  number_faulty e = rw (← e)

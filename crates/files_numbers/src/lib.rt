@@ -1,8 +1,8 @@
 // The numbers of a table's file: one at an offset, one below a limit, and the count of nodes.
 ghost use Rattle.std.specs.Prelude.{◌≡◌, ltb};
-ghost use Rattle.meaning.specs.Tables.{countRight};
+ghost use Rattle.meaning.specs.Tables.{count_right};
 ghost use Rattle.meaning.specs.Files.{number_at, number};
-ghost use Rattle.files_numbers.specs.Readings.{readAt};
+ghost use Rattle.files_numbers.specs.Readings.{read_at};
 
 // A number of the file, with the offset after it.
 #[derive(Drop)]
@@ -13,7 +13,7 @@ pub enum Number {
 
 // The number whose first byte stands at an offset, in shortest form and of at most two groups.
 fn number_at(file: &[u8], at: usize) -> Number
-    ensures { readAt at result ≡ number_at file.now at }
+    ensures { read_at at result ≡ number_at file.now at }
 {
     if file.len() <= at {
         return Number::Faulty;
@@ -38,7 +38,7 @@ fn number_at(file: &[u8], at: usize) -> Number
 
 // The number at an offset, if it is below a limit.
 pub fn number_below(file: &[u8], at: usize, limit: usize) -> Number
-    ensures { readAt at result ≡ number (λ n. ltb n limit) file.now at }
+    ensures { read_at at result ≡ number (λ n. ltb n limit) file.now at }
 {
     let Number::Is(n, next) = number_at(file, at) else {
         return Number::Faulty;
@@ -51,7 +51,7 @@ pub fn number_below(file: &[u8], at: usize, limit: usize) -> Number
 
 // The count of nodes, with which the file begins.
 pub fn count_of(file: &[u8]) -> Number
-    ensures { readAt 0 result ≡ number countRight file.now 0 }
+    ensures { read_at 0 result ≡ number count_right file.now 0 }
 {
     let Number::Is(n, next) = number_at(file, 0) else {
         return Number::Faulty;

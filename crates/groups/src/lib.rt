@@ -2,8 +2,8 @@
 // Inner: a group must be there, which every public call checks first.
 ghost use Rattle.std.specs.Prelude.{◌≡◌, ◌+◌, ◌*◌, ◌≤◌, length, drop, get_or};
 ghost use Rattle.std.proofs.Math.Seq.{paste};
-ghost use Rattle.meaning.specs.Groups.{low, low_bytes, group, groupSize};
-ghost use Rattle.meaning.specs.Tables.{factsIn};
+ghost use Rattle.meaning.specs.Groups.{low, low_bytes, group, group_size};
+ghost use Rattle.meaning.specs.Tables.{facts_in};
 
 // How many bytes a group has.
 pub const GROUP_BYTES: usize = 27;
@@ -40,32 +40,32 @@ fn eight(s: &[u8], at: usize) -> u64
 
 // The width of a node.
 pub fn width_at(groups: &[u8], n: usize) -> u64
-    requires { groupSize * (n + 1) ≤ length groups.now }
-    ensures { result ≡ get_or (factsIn groups.now).widths n 0 }
+    requires { group_size * (n + 1) ≤ length groups.now }
+    ensures { result ≡ get_or (facts_in groups.now).widths n 0 }
 {
     eight(groups, GROUP_BYTES * n)
 }
 
 // The size of a node.
 pub fn size_at(groups: &[u8], n: usize) -> u64
-    requires { groupSize * (n + 1) ≤ length groups.now }
-    ensures { result ≡ get_or (factsIn groups.now).sizes n 0 }
+    requires { group_size * (n + 1) ≤ length groups.now }
+    ensures { result ≡ get_or (facts_in groups.now).sizes n 0 }
 {
     eight(groups, GROUP_BYTES * n + 8)
 }
 
 // The padded byte of a node.
 pub fn padded_at(groups: &[u8], n: usize) -> u8
-    requires { groupSize * (n + 1) ≤ length groups.now }
-    ensures { result ≡ get_or (factsIn groups.now).paddeds n 0 }
+    requires { group_size * (n + 1) ≤ length groups.now }
+    ensures { result ≡ get_or (facts_in groups.now).paddeds n 0 }
 {
     groups[GROUP_BYTES * n + 16]
 }
 
 // The class of a node.
 pub fn class_at(groups: &[u8], n: usize) -> u16
-    requires { groupSize * (n + 1) ≤ length groups.now }
-    ensures { result ≡ get_or (factsIn groups.now).classes n 0 }
+    requires { group_size * (n + 1) ≤ length groups.now }
+    ensures { result ≡ get_or (facts_in groups.now).classes n 0 }
 {
     let at = GROUP_BYTES * n + 17;
     two(groups[at], groups[at + 1])
@@ -73,8 +73,8 @@ pub fn class_at(groups: &[u8], n: usize) -> u16
 
 // The least compact length of a node.
 pub fn least_at(groups: &[u8], n: usize) -> u64
-    requires { groupSize * (n + 1) ≤ length groups.now }
-    ensures { result ≡ get_or (factsIn groups.now).leasts n 0 }
+    requires { group_size * (n + 1) ≤ length groups.now }
+    ensures { result ≡ get_or (facts_in groups.now).leasts n 0 }
 {
     eight(groups, GROUP_BYTES * n + 19)
 }
@@ -103,9 +103,9 @@ pub fn put_facts(
     class: u16,
     least: u64,
 )
-    requires { groupSize * (n + 1) ≤ length groups.old }
-    ensures { groups.new ≡ paste groups.old (groupSize * n)
-        (group width size padded class least) groupSize }
+    requires { group_size * (n + 1) ≤ length groups.old }
+    ensures { groups.new ≡ paste groups.old (group_size * n)
+        (group width size padded class least) group_size }
 {
     let at = GROUP_BYTES * n;
     put_low(groups, at, width, 8);

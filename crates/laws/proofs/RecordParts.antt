@@ -1,9 +1,9 @@
 -- How records come apart that were put together.
 --
---   leftOf-inLeft rightOf-inRight       the payload of a record that was made of it
---   compact-inLeft compact-inRight      its compact bits: the tag, then those of the payload
---   plain-inLeft plain-inRight          zeroing its padding zeroes the payload's
---   compact-pair plain-pair             compact bits and zero padding of a product: first part, then second
+--   left_of_in_left right_of_in_right   the payload of a record that was made of it
+--   compact_in_left compact_in_right    its compact bits: the tag, then those of the payload
+--   plain_in_left plain_in_right        zeroing its padding zeroes the payload's
+--   compact_pair plain_pair             compact bits and zero padding of a product: first part, then second
 -- Assumes nothing.
 use mathlib.Core.Path.{◌≡◌, ap, ap₂, ◌∙◌}
 use mathlib.Core.Bool.{Bool, true, false}
@@ -14,38 +14,38 @@ use lib.ListN.{length, drop, length-replicate}
 use lib.Seq.{take_at, drop_at}
 use Rattle.meaning.specs.Types.{Ty, sum, prod, bits}
 use Rattle.meaning.specs.Bits.{zeros}
-use Rattle.meaning.specs.Records.{padLeft, padRight, left_of, rightOf, inLeft, inRight, compact, plain}
+use Rattle.meaning.specs.Records.{pad_left, pad_right, left_of, right_of, in_left, in_right, compact, plain}
 
 -- What stands after a tag and so many zero bits.
-drop-padding : (n : ℕ) (b : Bool) (p : List Bool) → drop (1 + n) (b ∷ (zeros n ++ p)) ≡ p
-drop-padding n b p = ap (λ (k : ℕ). drop k (b ∷ (zeros n ++ p))) (one-add n) ∙ drop_at (zeros n) p n (length-replicate n false)
+drop_padding : (n : ℕ) (b : Bool) (p : List Bool) → drop (1 + n) (b ∷ (zeros n ++ p)) ≡ p
+drop_padding n b p = ap (λ (k : ℕ). drop k (b ∷ (zeros n ++ p))) (one-add n) ∙ drop_at (zeros n) p n (length-replicate n false)
 
-pub leftOf-inLeft : (a b : Ty) (p : List Bool) → left_of a b (inLeft a b p) ≡ p
-leftOf-inLeft a b p = drop-padding (padLeft a b) false p
+pub left_of_in_left : (a b : Ty) (p : List Bool) → left_of a b (in_left a b p) ≡ p
+left_of_in_left a b p = drop_padding (pad_left a b) false p
 
-pub rightOf-inRight : (a b : Ty) (p : List Bool) → rightOf a b (inRight a b p) ≡ p
-rightOf-inRight a b p = drop-padding (padRight a b) true p
+pub right_of_in_right : (a b : Ty) (p : List Bool) → right_of a b (in_right a b p) ≡ p
+right_of_in_right a b p = drop_padding (pad_right a b) true p
 
-pub compact-inLeft : (a b : Ty) (p : List Bool) → compact (sum a b) (inLeft a b p) ≡ false ∷ compact a p
+pub compact_in_left : (a b : Ty) (p : List Bool) → compact (sum a b) (in_left a b p) ≡ false ∷ compact a p
 unfolding compact
-compact-inLeft a b p = ap (λ (v : List Bool). false ∷ compact a v) (leftOf-inLeft a b p)
+compact_in_left a b p = ap (λ (v : List Bool). false ∷ compact a v) (left_of_in_left a b p)
 
-pub compact-inRight : (a b : Ty) (p : List Bool) → compact (sum a b) (inRight a b p) ≡ true ∷ compact b p
+pub compact_in_right : (a b : Ty) (p : List Bool) → compact (sum a b) (in_right a b p) ≡ true ∷ compact b p
 unfolding compact
-compact-inRight a b p = ap (λ (v : List Bool). true ∷ compact b v) (rightOf-inRight a b p)
+compact_in_right a b p = ap (λ (v : List Bool). true ∷ compact b v) (right_of_in_right a b p)
 
-pub plain-inLeft : (a b : Ty) (p : List Bool) → plain (sum a b) (inLeft a b p) ≡ inLeft a b (plain a p)
+pub plain_in_left : (a b : Ty) (p : List Bool) → plain (sum a b) (in_left a b p) ≡ in_left a b (plain a p)
 unfolding plain
-plain-inLeft a b p = ap (λ (v : List Bool). inLeft a b (plain a v)) (leftOf-inLeft a b p)
+plain_in_left a b p = ap (λ (v : List Bool). in_left a b (plain a v)) (left_of_in_left a b p)
 
-pub plain-inRight : (a b : Ty) (p : List Bool) → plain (sum a b) (inRight a b p) ≡ inRight a b (plain b p)
+pub plain_in_right : (a b : Ty) (p : List Bool) → plain (sum a b) (in_right a b p) ≡ in_right a b (plain b p)
 unfolding plain
-plain-inRight a b p = ap (λ (v : List Bool). inRight a b (plain b v)) (rightOf-inRight a b p)
+plain_in_right a b p = ap (λ (v : List Bool). in_right a b (plain b v)) (right_of_in_right a b p)
 
-pub compact-pair : (a b : Ty) (p q : List Bool) → length p ≡ bits a → compact (prod a b) (p ++ q) ≡ compact a p ++ compact b q
+pub compact_pair : (a b : Ty) (p q : List Bool) → length p ≡ bits a → compact (prod a b) (p ++ q) ≡ compact a p ++ compact b q
 unfolding compact
-compact-pair a b p q h = ap₂ (λ (v w : List Bool). compact a v ++ compact b w) (take_at p q (bits a) h) (drop_at p q (bits a) h)
+compact_pair a b p q h = ap₂ (λ (v w : List Bool). compact a v ++ compact b w) (take_at p q (bits a) h) (drop_at p q (bits a) h)
 
-pub plain-pair : (a b : Ty) (p q : List Bool) → length p ≡ bits a → plain (prod a b) (p ++ q) ≡ plain a p ++ plain b q
+pub plain_pair : (a b : Ty) (p q : List Bool) → length p ≡ bits a → plain (prod a b) (p ++ q) ≡ plain a p ++ plain b q
 unfolding plain
-plain-pair a b p q h = ap₂ (λ (v w : List Bool). plain a v ++ plain b w) (take_at p q (bits a) h) (drop_at p q (bits a) h)
+plain_pair a b p q h = ap₂ (λ (v w : List Bool). plain a v ++ plain b w) (take_at p q (bits a) h) (drop_at p q (bits a) h)

@@ -1,19 +1,19 @@
 -- 9 is exact: each call that writes answers 9 exactly if none of its other rungs refuses and the output is shorter than the whole result needs.
 -- Of a maker that is not said to go by a width, these are the bits that it makes; where its other rungs pass they are as many as the result is
--- wide, by `length-inLeft`, `length-inRight`, `length-pair` of meaning and `length-buffer`, `length-state` of words_laws.
+-- wide, by `length_in_left`, `length_in_right`, `length_pair` of meaning and `length_buffer`, `length_state` of words_laws.
 --
---   Short makes-nine            of a call that makes bits
---   makes-nine-wide             the same by a width, which the bits have if the other rungs pass
---   nothing-never-nine          a call that makes no bits never answers 9
---   ShortRead reads-nine        of a call that reads a stream that does not end early, by the width that every record read has
---   fill-facts-nine             of `fill_facts`: too few bytes for the groups
---   read-table-nine             of `read_table`: a column or the groups don't reach the file's count
+--   Short makes_nine            of a call that makes bits
+--   makes_nine_wide             the same by a width, which the bits have if the other rungs pass
+--   nothing_never_nine          a call that makes no bits never answers 9
+--   ShortRead reads_nine        of a call that reads a stream that does not end early, by the width that every record read has
+--   fill_facts_nine             of `fill_facts`: too few bytes for the groups
+--   read_table_nine             of `read_table`: a column or the groups don't reach the file's count
 -- and the law of each other call:
---   unit-never-nine zero-nine (by the width of the result) left-nine right-nine none-nine some-nine product-nine
---   number-nine (u1 u2 u4) bytes-nine (u8 … u512) array-nine (from_byte_array) join-nine (word_product)
---   buffer-nine ctx8-nine from-range-nine (whatever is made after these rungs: ctx8 of slices, as `exports` has it)
---   to-compact-nine to-padded-nine prune-nine (by the width of the target: `prune-nine-wide` of the crate prune)
---   from-compact-nine from-padded-nine word-read-nine (word_from_bits): by the width of the node's type
+--   unit_never_nine zero_nine (by the width of the result) left_nine right_nine none_nine some_nine product_nine
+--   number_nine (u1 u2 u4) bytes_nine (u8 … u512) array_nine (from_byte_array) join_nine (word_product)
+--   buffer_nine ctx8_nine from_range_nine (whatever is made after these rungs: ctx8 of slices, as `exports` has it)
+--   to_compact_nine to_padded_nine prune_nine (by the width of the target: `prune_nine_wide` of the crate prune)
+--   from_compact_nine from_padded_nine word_read_nine (word_from_bits): by the width of the node's type
 -- Assumes nothing.
 use Prim.Native.Nat.{ℕ, ◌+◌, ◌*◌, ◌<◌, ◌^◌, zero-le}
 use mathlib.Core.Path.{◌≡◌, refl, sym, ap, ◌∙◌, subst}
@@ -24,197 +24,197 @@ use lib.ListN.{length, length-replicate}
 use lib.Dec.{ltb}
 use borrow.Author.Tests.{ltb-true, lt-ltb, le-ltb, leb-false, lt-leb, not-true}
 use Rattle.meaning.specs.Types.{bits}
-use Rattle.meaning.specs.Groups.{groupSize}
-use Rattle.meaning.specs.Tables.{Columns, Table, columnsReach, groupsReach}
-use Rattle.meaning.specs.Files.{Reading, faulty, found, Entry, tableIn}
+use Rattle.meaning.specs.Groups.{group_size}
+use Rattle.meaning.specs.Tables.{Columns, Table, columns_reach, groups_reach}
+use Rattle.meaning.specs.Files.{Reading, faulty, found, Entry, table_in}
 use Rattle.meaning.specs.Bits.{to_bits, bits_of, room}
-use Rattle.meaning.specs.Codecs.{Decoded, decoded, isEarly, recordOf, consumed}
-use Rattle.meaning.specs.Words.{HashState, bufferBits, ctx8Bits}
-use Rattle.meaning.specs.Ladder.{refused, accepted, Rung, rung, ladder, Record, Stream, type_at, recordBits, rest_of, room_for, makes}
+use Rattle.meaning.specs.Codecs.{Decoded, decoded, is_early, decoded_record, consumed}
+use Rattle.meaning.specs.Words.{HashState, buffer_bits, ctx8_bits}
+use Rattle.meaning.specs.Ladder.{refused, accepted, Rung, rung, ladder, Record, Stream, type_at, record_bits, rest_of, room_for, makes}
 use Rattle.meaning.specs.TypeCalls as types
 use Rattle.meaning.specs.RecordCalls as records
 use Rattle.meaning.specs.CodecCalls as codecs
 use Rattle.meaning.specs.CodecCalls.{reads}
 use Rattle.meaning.specs.WordCalls as words
 use Rattle.meaning.specs.CutCalls as cuts
-use Rattle.meaning.proofs.Ladders.{ladder-pass, ladder-fails, ladder-parts, ladder-clear}
-use Rattle.meaning.proofs.Refusals.{without, without-both, without-unanswered, answered-alone}
-use Rattle.laws.proofs.CodecRoundTrips.{compact-read-write, padded-read-write}
-use Rattle.laws.proofs.CodecExact.{decoded-test}
-use Rattle.laws.proofs.RungOrder.{entriesFilled, fileRead}
+use Rattle.meaning.proofs.Ladders.{ladder_pass, ladder_fails, ladder_parts, ladder_clear}
+use Rattle.meaning.proofs.Refusals.{without, without_both, without_unanswered, answered_alone}
+use Rattle.laws.proofs.CodecRoundTrips.{compact_read_write, padded_read_write}
+use Rattle.laws.proofs.CodecExact.{decoded_test}
+use Rattle.laws.proofs.RungOrder.{entries_filled, file_read}
 
 -- The other rungs pass, and the output is shorter than n bits need.
 pub record Short (rs : List Rung) (n : ℕ) (out : List ℕ) : Type 0 where
-  pub others-pass : ladder rs (tt {0}) ≡ accepted (tt {0})
+  pub others_pass : ladder rs (tt {0}) ≡ accepted (tt {0})
   pub too_short : length out < room n
 
-pub makes-nine-wide : (rs : List Rung) (v : List Bool) (n : ℕ) (out : List ℕ) → without 9 rs ≡ true
+pub makes_nine_wide : (rs : List Rung) (v : List Bool) (n : ℕ) (out : List ℕ) → without 9 rs ≡ true
     → (ladder rs (tt {0}) ≡ accepted (tt {0}) → length v ≡ n) → (makes rs v out ≡ refused 9 0) ↔ Short rs n out
-makes-nine-wide rs v n out w wide =
-    let a = answered-alone rs (ltb (length out) (room (length v))) 9 0 [] (length v) w refl in (
+makes_nine_wide rs v n out w wide =
+    let a = answered_alone rs (ltb (length out) (room (length v))) 9 0 [] (length v) w refl in (
       λ e.
           let h = a.0 e in
           record {
-            others-pass = h.0;
+            others_pass = h.0;
             too_short = subst (λ (k : ℕ). length out < room k) (wide h.0) (ltb-true (length out) (room (length v)) h.1);
           },
       λ s.
-          let l = subst (λ (k : ℕ). length out < room k) (sym (wide s.others-pass)) s.too_short in
-          a.1 (s.others-pass, lt-ltb (length out) (room (length v)) l),
+          let l = subst (λ (k : ℕ). length out < room k) (sym (wide s.others_pass)) s.too_short in
+          a.1 (s.others_pass, lt-ltb (length out) (room (length v)) l),
     )
 
-pub makes-nine : (rs : List Rung) (v : List Bool) (out : List ℕ) → without 9 rs ≡ true → (makes rs v out ≡ refused 9 0) ↔ Short rs (length v) out
-makes-nine rs v out w = makes-nine-wide rs v (length v) out w (λ h. refl)
+pub makes_nine : (rs : List Rung) (v : List Bool) (out : List ℕ) → without 9 rs ≡ true → (makes rs v out ≡ refused 9 0) ↔ Short rs (length v) out
+makes_nine rs v out w = makes_nine_wide rs v (length v) out w (λ h. refl)
 
 -- No output is shorter than no bits need.
-pub nothing-never-nine : (rs : List Rung) (out : List ℕ) (p : ℕ) → without 9 rs ≡ true → makes rs [] out ≡ refused 9 p → ⊥
+pub nothing_never_nine : (rs : List Rung) (out : List ℕ) (p : ℕ) → without 9 rs ≡ true → makes rs [] out ≡ refused 9 p → ⊥
 unfolding ladder
-nothing-never-nine rs out p w e = without-unanswered rs 0 9 p w (sym (last-fails rs) ∙ e)
+nothing_never_nine rs out p w e = without_unanswered rs 0 9 p w (sym (last_fails rs) ∙ e)
   where
-    last-fails : (rs : List Rung) → makes rs [] out ≡ ladder rs 0
-    last-fails [] = ladder-fails (ltb (length out) (room 0)) 9 0 [] 0 (le-ltb (length out) (room 0) zero-le)
-    last-fails (rung true m q ∷ rs) = refl
-    last-fails (rung false m q ∷ rs) = last-fails rs
+    last_fails : (rs : List Rung) → makes rs [] out ≡ ladder rs 0
+    last_fails [] = ladder_fails (ltb (length out) (room 0)) 9 0 [] 0 (le-ltb (length out) (room 0) zero-le)
+    last_fails (rung true m q ∷ rs) = refl
+    last_fails (rung false m q ∷ rs) = last_fails rs
 
 -- The other rungs pass, the stream doesn't end early, and the output is shorter than n bits need.
 pub record ShortRead (rs : List Rung) (d : Decoded) (n : ℕ) (out : List ℕ) : Type 0 where
-  pub others-pass : ladder rs (tt {0}) ≡ accepted (tt {0})
-  pub whole : isEarly d ≡ false
+  pub others_pass : ladder rs (tt {0}) ≡ accepted (tt {0})
+  pub whole : is_early d ≡ false
   pub too_short : length out < room n
 
-pub reads-nine : (rs : List Rung) (s : Stream) (d : Decoded) (n : ℕ) (out : List ℕ) → without 9 rs ≡ true
-    → (d ≡ decoded (recordOf d) (consumed d) → length (recordOf d) ≡ n) → (reads rs s d out ≡ refused 9 0) ↔ ShortRead rs d n out
+pub reads_nine : (rs : List Rung) (s : Stream) (d : Decoded) (n : ℕ) (out : List ℕ) → without 9 rs ≡ true
+    → (d ≡ decoded (decoded_record d) (consumed d) → length (decoded_record d) ≡ n) → (reads rs s d out ≡ refused 9 0) ↔ ShortRead rs d n out
 unfolding ladder
-reads-nine rs s d n out w wide =
-    let eight = rung (isEarly d) 8 0 ∷ [] in
+reads_nine rs s d n out w wide =
+    let eight = rung (is_early d) 8 0 ∷ [] in
     let next = s.position + consumed d in
-    let same = ap (λ (x : List Rung). ladder x next) (append_assoc rs eight (room_for (recordOf d) out)) in
-    let a = answered-alone (rs ++ eight) (ltb (length out) (room (length (recordOf d)))) 9 0 [] next (without-both 9 rs eight w refl) refl in (
+    let same = ap (λ (x : List Rung). ladder x next) (append_assoc rs eight (room_for (decoded_record d) out)) in
+    let a = answered_alone (rs ++ eight) (ltb (length out) (room (length (decoded_record d)))) 9 0 [] next (without_both 9 rs eight w refl) refl in (
       λ e.
           let h = a.0 (same ∙ e) in
-          let parts = ladder-parts rs eight (tt {0}) (tt {0}) (tt {0}) h.0 in
-          let read = (ladder-clear (isEarly d) 8 0 [] (tt {0}) (tt {0}) parts.1).0 in
-          let l = ltb-true (length out) (room (length (recordOf d))) h.1 in
+          let parts = ladder_parts rs eight (tt {0}) (tt {0}) (tt {0}) h.0 in
+          let read = (ladder_clear (is_early d) 8 0 [] (tt {0}) (tt {0}) parts.1).0 in
+          let l = ltb-true (length out) (room (length (decoded_record d))) h.1 in
           record {
-            others-pass = parts.0;
+            others_pass = parts.0;
             whole = read;
-            too_short = subst (λ (k : ℕ). length out < room k) (wide ((decoded-test d).0 read)) l;
+            too_short = subst (λ (k : ℕ). length out < room k) (wide ((decoded_test d).0 read)) l;
           },
       λ f.
-          let l = subst (λ (k : ℕ). length out < room k) (sym (wide ((decoded-test d).0 f.whole))) f.too_short in
+          let l = subst (λ (k : ℕ). length out < room k) (sym (wide ((decoded_test d).0 f.whole))) f.too_short in
           sym same
           ∙ a.1 (
-            ladder-pass rs eight (tt {0}) (tt {0}) (tt {0}) f.others-pass ∙ ladder-fails (isEarly d) 8 0 [] (tt {0}) f.whole,
-            lt-ltb (length out) (room (length (recordOf d))) l,
+            ladder_pass rs eight (tt {0}) (tt {0}) (tt {0}) f.others_pass ∙ ladder_fails (is_early d) 8 0 [] (tt {0}) f.whole,
+            lt-ltb (length out) (room (length (decoded_record d))) l,
           ),
     )
 
-pub fill-facts-nine : (c : Columns) (n : ℕ) (gs : List ℕ)
-    → (types.fillFactsCall c n gs ≡ refused 9 0)
-    ↔ ((ladder (entriesFilled c n) (tt {0}) ≡ accepted (tt {0})) × (length gs < groupSize * n))
-fill-facts-nine c n gs =
-    let a = answered-alone (entriesFilled c n) (not (groupsReach gs n)) 9 0 [] (tt {0}) refl refl in (
-      λ e. ((a.0 e).0, leb-false (groupSize * n) (length gs) (not-true (groupsReach gs n) (a.0 e).1)),
-      λ s. a.1 (s.0, ap not (lt-leb (groupSize * n) (length gs) s.1)),
+pub fill_facts_nine : (c : Columns) (n : ℕ) (gs : List ℕ)
+    → (types.fill_facts_call c n gs ≡ refused 9 0)
+    ↔ ((ladder (entries_filled c n) (tt {0}) ≡ accepted (tt {0})) × (length gs < group_size * n))
+fill_facts_nine c n gs =
+    let a = answered_alone (entries_filled c n) (not (groups_reach gs n)) 9 0 [] (tt {0}) refl refl in (
+      λ e. ((a.0 e).0, leb-false (group_size * n) (length gs) (not-true (groups_reach gs n) (a.0 e).1)),
+      λ s. a.1 (s.0, ap not (lt-leb (group_size * n) (length gs) s.1)),
     )
 
-pub read-table-nine : (file : List ℕ) (c : Columns) (gs : List ℕ)
-    → (types.readTableCall file c gs ≡ refused 9 0)
-    ↔ ((ladder (fileRead (tableIn file)) (tt {0}) ≡ accepted (tt {0}))
-    × ((columnsReach c (length (types.entriesIn (tableIn file))) && groupsReach gs (length (types.entriesIn (tableIn file)))) ≡ false))
-read-table-nine file c gs =
-    let n = length (types.entriesIn (tableIn file)) in
-    let a = answered-alone (fileRead (tableIn file)) (not (columnsReach c n && groupsReach gs n)) 9 0 [] n (go (tableIn file)) refl in
-    (λ e. ((a.0 e).0, not-true (columnsReach c n && groupsReach gs n) (a.0 e).1), λ s. a.1 (s.0, ap not s.1))
+pub read_table_nine : (file : List ℕ) (c : Columns) (gs : List ℕ)
+    → (types.read_table_call file c gs ≡ refused 9 0)
+    ↔ ((ladder (file_read (table_in file)) (tt {0}) ≡ accepted (tt {0}))
+    × ((columns_reach c (length (types.entries_in (table_in file))) && groups_reach gs (length (types.entries_in (table_in file)))) ≡ false))
+read_table_nine file c gs =
+    let n = length (types.entries_in (table_in file)) in
+    let a = answered_alone (file_read (table_in file)) (not (columns_reach c n && groups_reach gs n)) 9 0 [] n (go (table_in file)) refl in
+    (λ e. ((a.0 e).0, not-true (columns_reach c n && groups_reach gs n) (a.0 e).1), λ s. a.1 (s.0, ap not s.1))
   where
-    go : (r : Reading (List Entry)) → without 9 (fileRead r) ≡ true
+    go : (r : Reading (List Entry)) → without 9 (file_read r) ≡ true
     go (faulty p) = refl
     go (found es at) = refl
 
 module _ (t : Table) where
-  pub unit-never-nine : (result : ℕ) (out : List ℕ) (p : ℕ) → records.unitCall t result out ≡ refused 9 p → ⊥
-  unit-never-nine result out p = nothing-never-nine (records.unitRungs t result) out p refl
+  pub unit_never_nine : (result : ℕ) (out : List ℕ) (p : ℕ) → records.unit_call t result out ≡ refused 9 p → ⊥
+  unit_never_nine result out p = nothing_never_nine (records.unit_rungs t result) out p refl
 
-  pub zero-nine : (result : ℕ) (out : List ℕ)
-      → (records.zeroCall t result out ≡ refused 9 0) ↔ Short (records.zeroRungs t result) (bits (type_at t result)) out
-  zero-nine result out = makes-nine-wide _ (records.zeroBits t result) _ _ refl (λ h. length-replicate (bits (type_at t result)) false)
+  pub zero_nine : (result : ℕ) (out : List ℕ)
+      → (records.zero_call t result out ≡ refused 9 0) ↔ Short (records.zero_rungs t result) (bits (type_at t result)) out
+  zero_nine result out = makes_nine_wide _ (records.zero_bits t result) _ _ refl (λ h. length-replicate (bits (type_at t result)) false)
 
-  pub left-nine : (p : Record) (result : ℕ) (out : List ℕ)
-      → (records.leftCall t p result out ≡ refused 9 0) ↔ Short (records.leftRungs t p result) (length (records.leftBits t p result)) out
-  left-nine p result out = makes-nine _ (records.leftBits t p result) _ refl
+  pub left_nine : (p : Record) (result : ℕ) (out : List ℕ)
+      → (records.left_call t p result out ≡ refused 9 0) ↔ Short (records.left_rungs t p result) (length (records.left_bits t p result)) out
+  left_nine p result out = makes_nine _ (records.left_bits t p result) _ refl
 
-  pub right-nine : (p : Record) (result : ℕ) (out : List ℕ)
-      → (records.rightCall t p result out ≡ refused 9 0) ↔ Short (records.rightRungs t p result) (length (records.rightBits t p result)) out
-  right-nine p result out = makes-nine _ (records.rightBits t p result) _ refl
+  pub right_nine : (p : Record) (result : ℕ) (out : List ℕ)
+      → (records.right_call t p result out ≡ refused 9 0) ↔ Short (records.right_rungs t p result) (length (records.right_bits t p result)) out
+  right_nine p result out = makes_nine _ (records.right_bits t p result) _ refl
 
-  pub none-nine : (result : ℕ) (out : List ℕ)
-      → (records.noneCall t result out ≡ refused 9 0) ↔ Short (records.noneRungs t result) (length (records.noneBits t result)) out
-  none-nine result out = makes-nine _ (records.noneBits t result) _ refl
+  pub none_nine : (result : ℕ) (out : List ℕ)
+      → (records.none_call t result out ≡ refused 9 0) ↔ Short (records.none_rungs t result) (length (records.none_bits t result)) out
+  none_nine result out = makes_nine _ (records.none_bits t result) _ refl
 
-  pub some-nine : (p : Record) (result : ℕ) (out : List ℕ)
-      → (records.someCall t p result out ≡ refused 9 0) ↔ Short (records.someRungs t p result) (length (records.someBits t p result)) out
-  some-nine p result out = makes-nine _ (records.someBits t p result) _ refl
+  pub some_nine : (p : Record) (result : ℕ) (out : List ℕ)
+      → (records.some_call t p result out ≡ refused 9 0) ↔ Short (records.some_rungs t p result) (length (records.some_bits t p result)) out
+  some_nine p result out = makes_nine _ (records.some_bits t p result) _ refl
 
-  pub product-nine : (a b : Record) (result : ℕ) (out : List ℕ)
-      → (records.productCall t a b result out ≡ refused 9 0) ↔ Short (records.productRungs t a b result) (length (records.productBits t a b)) out
-  product-nine a b result out = makes-nine _ (records.productBits t a b) _ refl
+  pub product_nine : (a b : Record) (result : ℕ) (out : List ℕ)
+      → (records.product_call t a b result out ≡ refused 9 0) ↔ Short (records.product_rungs t a b result) (length (records.product_bits t a b)) out
+  product_nine a b result out = makes_nine _ (records.product_bits t a b) _ refl
 
-  pub number-nine : (n x result : ℕ) (out : List ℕ)
-      → (words.numberCall t n x result out ≡ refused 9 0) ↔ Short (words.numberRungs t n x result) (length (to_bits (2 ^ n) x)) out
-  number-nine n x result out = makes-nine _ (to_bits (2 ^ n) x) _ refl
+  pub number_nine : (n x result : ℕ) (out : List ℕ)
+      → (words.number_call t n x result out ≡ refused 9 0) ↔ Short (words.number_rungs t n x result) (length (to_bits (2 ^ n) x)) out
+  number_nine n x result out = makes_nine _ (to_bits (2 ^ n) x) _ refl
 
-  pub bytes-nine : (n : ℕ) (given : List ℕ) (result : ℕ) (out : List ℕ)
-      → (words.bytesCall t n given result out ≡ refused 9 0) ↔ Short (words.bytesRungs t n given result) (length (bits_of given)) out
-  bytes-nine n given result out = makes-nine _ (bits_of given) _ refl
+  pub bytes_nine : (n : ℕ) (given : List ℕ) (result : ℕ) (out : List ℕ)
+      → (words.bytes_call t n given result out ≡ refused 9 0) ↔ Short (words.bytes_rungs t n given result) (length (bits_of given)) out
+  bytes_nine n given result out = makes_nine _ (bits_of given) _ refl
 
-  pub array-nine : (given : List ℕ) (result : ℕ) (out : List ℕ)
-      → (words.arrayCall t given result out ≡ refused 9 0) ↔ Short (words.arrayRungs t given result) (length (bits_of given)) out
-  array-nine given result out = makes-nine _ (bits_of given) _ refl
+  pub array_nine : (given : List ℕ) (result : ℕ) (out : List ℕ)
+      → (words.array_call t given result out ≡ refused 9 0) ↔ Short (words.array_rungs t given result) (length (bits_of given)) out
+  array_nine given result out = makes_nine _ (bits_of given) _ refl
 
-  pub join-nine : (a b : Record) (result : ℕ) (out : List ℕ)
-      → (words.joinCall t a b result out ≡ refused 9 0) ↔ Short (words.joinRungs t a b result) (length (records.productBits t a b)) out
-  join-nine a b result out = makes-nine _ (records.productBits t a b) _ refl
+  pub join_nine : (a b : Record) (result : ℕ) (out : List ℕ)
+      → (words.join_call t a b result out ≡ refused 9 0) ↔ Short (words.join_rungs t a b result) (length (records.product_bits t a b)) out
+  join_nine a b result out = makes_nine _ (records.product_bits t a b) _ refl
 
-  pub buffer-nine : (n : ℕ) (held : List ℕ) (result : ℕ) (out : List ℕ)
-      → (words.buffer_call t n held result out ≡ refused 9 0) ↔ Short (words.bufferRungs t n held result) (length (bufferBits n held)) out
-  buffer-nine n held result out = makes-nine _ (bufferBits n held) _ refl
+  pub buffer_nine : (n : ℕ) (held : List ℕ) (result : ℕ) (out : List ℕ)
+      → (words.buffer_call t n held result out ≡ refused 9 0) ↔ Short (words.buffer_rungs t n held result) (length (buffer_bits n held)) out
+  buffer_nine n held result out = makes_nine _ (buffer_bits n held) _ refl
 
-  pub ctx8-nine : (s : HashState) (result : ℕ) (out : List ℕ)
-      → (words.ctx8Call t s result out ≡ refused 9 0) ↔ Short (words.ctx8Rungs t s result) (length (ctx8Bits s)) out
-  ctx8-nine s result out = makes-nine _ (ctx8Bits s) _ refl
+  pub ctx8_nine : (s : HashState) (result : ℕ) (out : List ℕ)
+      → (words.ctx8_call t s result out ≡ refused 9 0) ↔ Short (words.ctx8_rungs t s result) (length (ctx8_bits s)) out
+  ctx8_nine s result out = makes_nine _ (ctx8_bits s) _ refl
 
-  pub from-range-nine : (result : ℕ) (in_range right : Bool) (v : List Bool) (out : List ℕ)
-      → (makes (words.fromRange t result in_range right) v out ≡ refused 9 0) ↔ Short (words.fromRange t result in_range right) (length v) out
-  from-range-nine result in_range right v out = makes-nine _ v _ refl
+  pub from_range_nine : (result : ℕ) (in_range right : Bool) (v : List Bool) (out : List ℕ)
+      → (makes (words.from_range t result in_range right) v out ≡ refused 9 0) ↔ Short (words.from_range t result in_range right) (length v) out
+  from_range_nine result in_range right v out = makes_nine _ v _ refl
 
-  pub to-compact-nine : (r : Record) (out : List ℕ)
-      → (codecs.toCompactCall t r out ≡ refused 9 0) ↔ Short (codecs.writeRungs t r) (length (codecs.compactBits t r)) out
-  to-compact-nine r out = makes-nine _ (codecs.compactBits t r) _ refl
+  pub to_compact_nine : (r : Record) (out : List ℕ)
+      → (codecs.to_compact_call t r out ≡ refused 9 0) ↔ Short (codecs.write_rungs t r) (length (codecs.compact_bits t r)) out
+  to_compact_nine r out = makes_nine _ (codecs.compact_bits t r) _ refl
 
-  pub to-padded-nine : (r : Record) (out : List ℕ) → (codecs.toPaddedCall t r out ≡ refused 9 0) ↔ Short (codecs.writeRungs t r) (length (recordBits t r)) out
-  to-padded-nine r out = makes-nine _ (recordBits t r) _ refl
+  pub to_padded_nine : (r : Record) (out : List ℕ) → (codecs.to_padded_call t r out ≡ refused 9 0) ↔ Short (codecs.write_rungs t r) (length (record_bits t r)) out
+  to_padded_nine r out = makes_nine _ (record_bits t r) _ refl
 
-  pub prune-nine : (r : Record) (target : ℕ) (out : List ℕ)
-      → (cuts.pruneCall t r target out ≡ refused 9 0) ↔ Short (cuts.pruneRungs t r target) (length (cuts.cutBits (cuts.cut_of t r target))) out
-  prune-nine r target out = makes-nine _ (cuts.cutBits (cuts.cut_of t r target)) _ refl
+  pub prune_nine : (r : Record) (target : ℕ) (out : List ℕ)
+      → (cuts.prune_call t r target out ≡ refused 9 0) ↔ Short (cuts.prune_rungs t r target) (length (cuts.cut_bits (cuts.cut_of t r target))) out
+  prune_nine r target out = makes_nine _ (cuts.cut_bits (cuts.cut_of t r target)) _ refl
 
-  pub from-compact-nine : (s : Stream) (node : ℕ) (out : List ℕ)
-      → (codecs.fromCompactCall t s node out ≡ refused 9 0)
-      ↔ ShortRead (codecs.readRungs t s node) (codecs.compactIn t s node) (bits (type_at t node)) out
-  from-compact-nine s node out =
-      reads-nine (codecs.readRungs t s node) s (codecs.compactIn t s node) (bits (type_at t node)) out refl
-      (λ e. (compact-read-write (type_at t node) (rest_of s) _ _ e).as_wide)
+  pub from_compact_nine : (s : Stream) (node : ℕ) (out : List ℕ)
+      → (codecs.from_compact_call t s node out ≡ refused 9 0)
+      ↔ ShortRead (codecs.read_rungs t s node) (codecs.compact_in t s node) (bits (type_at t node)) out
+  from_compact_nine s node out =
+      reads_nine (codecs.read_rungs t s node) s (codecs.compact_in t s node) (bits (type_at t node)) out refl
+      (λ e. (compact_read_write (type_at t node) (rest_of s) _ _ e).as_wide)
 
-  pub from-padded-nine : (s : Stream) (node : ℕ) (out : List ℕ)
-      → (codecs.fromPaddedCall t s node out ≡ refused 9 0)
-      ↔ ShortRead (codecs.readRungs t s node) (codecs.paddedIn t s node) (bits (type_at t node)) out
-  from-padded-nine s node out =
-      reads-nine (codecs.readRungs t s node) s (codecs.paddedIn t s node) (bits (type_at t node)) out refl
-      (λ e. (padded-read-write (type_at t node) (rest_of s) _ _ e).as_wide)
+  pub from_padded_nine : (s : Stream) (node : ℕ) (out : List ℕ)
+      → (codecs.from_padded_call t s node out ≡ refused 9 0)
+      ↔ ShortRead (codecs.read_rungs t s node) (codecs.padded_in t s node) (bits (type_at t node)) out
+  from_padded_nine s node out =
+      reads_nine (codecs.read_rungs t s node) s (codecs.padded_in t s node) (bits (type_at t node)) out refl
+      (λ e. (padded_read_write (type_at t node) (rest_of s) _ _ e).as_wide)
 
-  pub word-read-nine : (s : Stream) (n node : ℕ) (out : List ℕ)
-      → (words.wordReadCall t s n node out ≡ refused 9 0)
-      ↔ ShortRead (words.wordReadRungs t s n node) (codecs.paddedIn t s node) (bits (type_at t node)) out
-  word-read-nine s n node out =
-      reads-nine (words.wordReadRungs t s n node) s (codecs.paddedIn t s node) (bits (type_at t node)) out refl
-      (λ e. (padded-read-write (type_at t node) (rest_of s) _ _ e).as_wide)
+  pub word_read_nine : (s : Stream) (n node : ℕ) (out : List ℕ)
+      → (words.word_read_call t s n node out ≡ refused 9 0)
+      ↔ ShortRead (words.word_read_rungs t s n node) (codecs.padded_in t s node) (bits (type_at t node)) out
+  word_read_nine s n node out =
+      reads_nine (words.word_read_rungs t s n node) s (codecs.padded_in t s node) (bits (type_at t node)) out refl
+      (λ e. (padded_read_write (type_at t node) (rest_of s) _ _ e).as_wide)

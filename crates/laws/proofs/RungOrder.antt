@@ -2,22 +2,22 @@
 -- call: its answer is the ladder of these rungs, and their numbers never fall.
 --
 --   InOrder in_order            an answer that is the ladder of these rungs, whose numbers never fall
---   in-order-refuses            it refuses with a number and a place exactly if its first rung that holds has them
---   in-order-smallest           it answers a number exactly if a rung with it holds and none with a smaller one does
---   in-order-placed             and a place with it exactly if that is the place of the first of the rungs with this number that holds
+--   in_order_refuses            it refuses with a number and a place exactly if its first rung that holds has them
+--   in_order_smallest           it answers a number exactly if a rung with it holds and none with a smaller one does
+--   in_order_placed             and a place with it exactly if that is the place of the first of the rungs with this number that holds
 --   asked reading               the rungs of a question about types; of a reader
---   Own asks-never widths-never     a question's own rungs; no question about types answers 3 or 4
---   entriesFilled groupsFilled  the rungs of `fill_facts`: 1, and 9
---   fileRead columnsRead        the rungs of `read_table`: 1, and 9
+--   Own asks_never widths_never     a question's own rungs; no question about types answers 3 or 4
+--   entries_filled groups_filled  the rungs of `fill_facts`: 1, and 9
+--   file_read columns_read      the rungs of `read_table`: 1, and 9
 -- and the law of each call:
---   read-table-order fill-facts-order check-table-order
---   facts-of-order same-type-order is-unit-order is-empty-order type-as-sum-order type-as-product-order pad-left-order pad-right-order
---   as-word-order word-width-order buffer-width-order is-buffer8-order is-ctx8-order
---   as-left-order as-right-order as-product-order equal-order compare-order compact-len-order padded-len-order
---   unit-order left-order right-order product-order none-order some-order zero-order
---   number-order (u1 u2 u4) bytes-order (u8 … u512) array-order (from_byte_array) join-order (word_product) word-read-order (word_from_bits)
---   buffer-order ctx8-order from-range-order (whatever is made after these rungs: ctx8 of slices, as `exports` has it)
---   from-compact-order from-padded-order to-compact-order to-padded-order prune-order
+--   read_table_order fill_facts_order check_table_order
+--   facts_of_order same_type_order is_unit_order is_empty_order type_as_sum_order type_as_product_order pad_left_order pad_right_order
+--   as_word_order word_width_order buffer_width_order is_buffer8_order is_ctx8_order
+--   as_left_order as_right_order as_product_order equal_order compare_order compact_len_order padded_len_order
+--   unit_order left_order right_order product_order none_order some_order zero_order
+--   number_order (u1 u2 u4) bytes_order (u8 … u512) array_order (from_byte_array) join_order (word_product) word_read_order (word_from_bits)
+--   buffer_order ctx8_order from_range_order (whatever is made after these rungs: ctx8 of slices, as `exports` has it)
+--   from_compact_order from_padded_order to_compact_order to_padded_order prune_order
 -- Assumes nothing.
 use Prim.Native.Nat.{ℕ, ◌^◌}
 use mathlib.Core.Path.{◌≡◌, refl, sym, ◌∙◌}
@@ -26,14 +26,14 @@ use mathlib.Core.Bool.{Bool, true, not, ◌&&◌}
 use mathlib.Core.List.{List, [], ◌∷◌, ◌++◌}
 use lib.ListN.{length, get_or}
 use lib.Dec.{ltb}
-use Rattle.meaning.specs.Types.{bits, isSum, isProd}
-use Rattle.meaning.specs.Tables.{Columns, Table, countRight, columnsReach, groupsReach, firstBadEntry}
-use Rattle.meaning.specs.Files.{Reading, faulty, found, Entry, tableIn}
+use Rattle.meaning.specs.Types.{bits, is_sum, is_prod}
+use Rattle.meaning.specs.Tables.{Columns, Table, count_right, columns_reach, groups_reach, first_bad_entry}
+use Rattle.meaning.specs.Files.{Reading, faulty, found, Entry, table_in}
 use Rattle.meaning.specs.Bits.{to_bits, bits_of}
 use Rattle.meaning.specs.Records.{tag}
-use Rattle.meaning.specs.Codecs.{Decoded, isEarly, recordOf}
-use Rattle.meaning.specs.Words.{HashState, wordWidths, asWord, buffer, bufferBits, ctx8Bits}
-use Rattle.meaning.specs.Ladder.{Answer, refused, Rung, rung, ladder, Record, Stream, type_at, type_of, recordBits}
+use Rattle.meaning.specs.Codecs.{Decoded, is_early, decoded_record}
+use Rattle.meaning.specs.Words.{HashState, word_widths, as_word, buffer, buffer_bits, ctx8_bits}
+use Rattle.meaning.specs.Ladder.{Answer, refused, Rung, rung, ladder, Record, Stream, type_at, type_of, record_bits}
 use Rattle.meaning.specs.Ladder.{sound, present, ranged, shaped, room_for, makes}
 use Rattle.meaning.specs.TypeCalls as types
 use Rattle.meaning.specs.RecordCalls as records
@@ -41,35 +41,35 @@ use Rattle.meaning.specs.RecordCalls.{handed, addressed}
 use Rattle.meaning.specs.CodecCalls as codecs
 use Rattle.meaning.specs.WordCalls as words
 use Rattle.meaning.specs.CutCalls as cuts
-use Rattle.meaning.proofs.Refusals.{First, FirstOf, Holds, NoneBelow, ladder-refuses, ordered, smallest-answered, smallest-placed, without-unanswered}
+use Rattle.meaning.proofs.Refusals.{First, FirstOf, Holds, NoneBelow, ladder_refuses, ordered, smallest_answered, smallest_placed, without_unanswered}
 
 -- The answer x is the ladder of these rungs over some value, and their numbers never fall.
 pub record InOrder {A : Type 0} (x : Answer A) (rungs : List Rung) : Type 0 where
   pub value : A
-  pub is-ladder : x ≡ ladder rungs value
-  pub never-fall : ordered rungs ≡ true
+  pub is_ladder : x ≡ ladder rungs value
+  pub never_fall : ordered rungs ≡ true
 
 pub in_order : {A : Type 0} {x : Answer A} {rungs : List Rung} (a : A) → x ≡ ladder rungs a → ordered rungs ≡ true → InOrder x rungs
-in_order a e o = record { value = a; is-ladder = e; never-fall = o }
+in_order a e o = record { value = a; is_ladder = e; never_fall = o }
 
-pub in-order-refuses : {A : Type 0} {x : Answer A} {rungs : List Rung} → InOrder x rungs → (n p : ℕ) → (x ≡ refused n p) ↔ First rungs n p
-in-order-refuses {rungs = rungs} o n p =
-    let l = ladder-refuses rungs o.value n p in
-    (λ e. l.0 (sym o.is-ladder ∙ e), λ f. o.is-ladder ∙ l.1 f)
+pub in_order_refuses : {A : Type 0} {x : Answer A} {rungs : List Rung} → InOrder x rungs → (n p : ℕ) → (x ≡ refused n p) ↔ First rungs n p
+in_order_refuses {rungs = rungs} o n p =
+    let l = ladder_refuses rungs o.value n p in
+    (λ e. l.0 (sym o.is_ladder ∙ e), λ f. o.is_ladder ∙ l.1 f)
 
-pub in-order-smallest : {A : Type 0} {x : Answer A} {rungs : List Rung} → InOrder x rungs → (n : ℕ)
+pub in_order_smallest : {A : Type 0} {x : Answer A} {rungs : List Rung} → InOrder x rungs → (n : ℕ)
     → ((p : ℕ) × (x ≡ refused n p)) ↔ (((p : ℕ) × Holds rungs n p) × NoneBelow rungs n)
-in-order-smallest {rungs = rungs} o n =
-    let l = smallest-answered rungs o.value n o.never-fall in (
-      λ e. l.0 (e.0, sym o.is-ladder ∙ e.1),
-      λ s. let f = l.1 s in (f.0, o.is-ladder ∙ f.1),
+in_order_smallest {rungs = rungs} o n =
+    let l = smallest_answered rungs o.value n o.never_fall in (
+      λ e. l.0 (e.0, sym o.is_ladder ∙ e.1),
+      λ s. let f = l.1 s in (f.0, o.is_ladder ∙ f.1),
     )
 
-pub in-order-placed : {A : Type 0} {x : Answer A} {rungs : List Rung} → InOrder x rungs → (n p : ℕ)
+pub in_order_placed : {A : Type 0} {x : Answer A} {rungs : List Rung} → InOrder x rungs → (n p : ℕ)
     → (x ≡ refused n p) ↔ (FirstOf rungs n p × NoneBelow rungs n)
-in-order-placed {rungs = rungs} o n p =
-    let l = smallest-placed rungs o.value n p o.never-fall in
-    (λ e. l.0 (sym o.is-ladder ∙ e), λ s. o.is-ladder ∙ l.1 s)
+in_order_placed {rungs = rungs} o n p =
+    let l = smallest_placed rungs o.value n p o.never_fall in
+    (λ e. l.0 (sym o.is_ladder ∙ e), λ s. o.is_ladder ∙ l.1 s)
 
 -- The rungs of a question about types, with its own last.
 abbrev pub asked : Table → List ℕ → List Rung → List Rung
@@ -81,193 +81,193 @@ pub data Own : List Rung → Type 0 where
   range : (b : Bool) → Own (ranged b)
   shape : (b : Bool) → Own (shaped b)
 
-pub asks-never : {A : Type 0} (t : Table) (ns : List ℕ) {own : List Rung} → Own own → (a : A) (p : ℕ)
+pub asks_never : {A : Type 0} (t : Table) (ns : List ℕ) {own : List Rung} → Own own → (a : A) (p : ℕ)
     → (types.asks t ns own a ≡ refused 3 p → ⊥) × (types.asks t ns own a ≡ refused 4 p → ⊥)
-asks-never t ns nothing a p = (without-unanswered (asked t ns []) a 3 p refl, without-unanswered (asked t ns []) a 4 p refl)
-asks-never t ns (range b) a p =
-    (without-unanswered (asked t ns (ranged b)) a 3 p refl, without-unanswered (asked t ns (ranged b)) a 4 p refl)
-asks-never t ns (shape b) a p =
-    (without-unanswered (asked t ns (shaped b)) a 3 p refl, without-unanswered (asked t ns (shaped b)) a 4 p refl)
+asks_never t ns nothing a p = (without_unanswered (asked t ns []) a 3 p refl, without_unanswered (asked t ns []) a 4 p refl)
+asks_never t ns (range b) a p =
+    (without_unanswered (asked t ns (ranged b)) a 3 p refl, without_unanswered (asked t ns (ranged b)) a 4 p refl)
+asks_never t ns (shape b) a p =
+    (without_unanswered (asked t ns (shaped b)) a 3 p refl, without_unanswered (asked t ns (shaped b)) a 4 p refl)
 
 -- Of the questions that name no node.
-pub widths-never : (n p : ℕ) → ((types.wordWidthCall n ≡ refused 3 p → ⊥) × (types.wordWidthCall n ≡ refused 4 p → ⊥))
-    × ((types.bufferWidthCall n ≡ refused 3 p → ⊥) × (types.bufferWidthCall n ≡ refused 4 p → ⊥))
-widths-never n p = (
-  (without-unanswered (ranged (ltb n 32)) (get_or wordWidths n 0) 3 p refl, without-unanswered (ranged (ltb n 32)) (get_or wordWidths n 0) 4 p refl),
-  (without-unanswered (ranged (ltb n 13)) (bits (buffer n)) 3 p refl, without-unanswered (ranged (ltb n 13)) (bits (buffer n)) 4 p refl),
+pub widths_never : (n p : ℕ) → ((types.word_width_call n ≡ refused 3 p → ⊥) × (types.word_width_call n ≡ refused 4 p → ⊥))
+    × ((types.buffer_width_call n ≡ refused 3 p → ⊥) × (types.buffer_width_call n ≡ refused 4 p → ⊥))
+widths_never n p = (
+  (without_unanswered (ranged (ltb n 32)) (get_or word_widths n 0) 3 p refl, without_unanswered (ranged (ltb n 32)) (get_or word_widths n 0) 4 p refl),
+  (without_unanswered (ranged (ltb n 13)) (bits (buffer n)) 3 p refl, without_unanswered (ranged (ltb n 13)) (bits (buffer n)) 4 p refl),
 )
 
 -- The rungs of a reader that decodes d.
 abbrev pub reading : List Rung → Decoded → List ℕ → List Rung
-reading rs d out = rs ++ (rung (isEarly d) 8 0 ∷ room_for (recordOf d) out)
+reading rs d out = rs ++ (rung (is_early d) 8 0 ∷ room_for (decoded_record d) out)
 
 -- `fill_facts`: 1.
-abbrev pub entriesFilled : Columns → ℕ → List Rung
-entriesFilled c n = rung (not (countRight n && columnsReach c n)) 1 0 ∷ rung (ltb (firstBadEntry c n) n) 1 (firstBadEntry c n) ∷ []
+abbrev pub entries_filled : Columns → ℕ → List Rung
+entries_filled c n = rung (not (count_right n && columns_reach c n)) 1 0 ∷ rung (ltb (first_bad_entry c n) n) 1 (first_bad_entry c n) ∷ []
 
 -- `fill_facts`: 9.
-abbrev pub groupsFilled : ℕ → List ℕ → List Rung
-groupsFilled n gs = rung (not (groupsReach gs n)) 9 0 ∷ []
+abbrev pub groups_filled : ℕ → List ℕ → List Rung
+groups_filled n gs = rung (not (groups_reach gs n)) 9 0 ∷ []
 
-pub fill-facts-order : (c : Columns) (n : ℕ) (gs : List ℕ) → InOrder (types.fillFactsCall c n gs) (entriesFilled c n ++ groupsFilled n gs)
-fill-facts-order c n gs = in_order _ refl refl
+pub fill_facts_order : (c : Columns) (n : ℕ) (gs : List ℕ) → InOrder (types.fill_facts_call c n gs) (entries_filled c n ++ groups_filled n gs)
+fill_facts_order c n gs = in_order _ refl refl
 
 -- `read_table`: 1.
-abbrev pub fileRead : Reading (List Entry) → List Rung
-fileRead r = types.fileRung r ∷ []
+abbrev pub file_read : Reading (List Entry) → List Rung
+file_read r = types.file_rung r ∷ []
 
 -- `read_table`: 9.
-abbrev pub columnsRead : Reading (List Entry) → Columns → List ℕ → List Rung
-columnsRead r c gs = rung (not (columnsReach c (length (types.entriesIn r)) && groupsReach gs (length (types.entriesIn r)))) 9 0 ∷ []
+abbrev pub columns_read : Reading (List Entry) → Columns → List ℕ → List Rung
+columns_read r c gs = rung (not (columns_reach c (length (types.entries_in r)) && groups_reach gs (length (types.entries_in r)))) 9 0 ∷ []
 
-pub read-table-order : (file : List ℕ) (c : Columns) (gs : List ℕ)
-    → InOrder (types.readTableCall file c gs) (fileRead (tableIn file) ++ columnsRead (tableIn file) c gs)
-read-table-order file c gs = in_order _ refl (go (tableIn file))
+pub read_table_order : (file : List ℕ) (c : Columns) (gs : List ℕ)
+    → InOrder (types.read_table_call file c gs) (file_read (table_in file) ++ columns_read (table_in file) c gs)
+read_table_order file c gs = in_order _ refl (go (table_in file))
   where
-    go : (r : Reading (List Entry)) → ordered (fileRead r ++ columnsRead r c gs) ≡ true
+    go : (r : Reading (List Entry)) → ordered (file_read r ++ columns_read r c gs) ≡ true
     go (faulty p) = refl
     go (found es at) = refl
 
-pub word-width-order : (n : ℕ) → InOrder (types.wordWidthCall n) (ranged (ltb n 32))
-word-width-order n = in_order _ refl refl
+pub word_width_order : (n : ℕ) → InOrder (types.word_width_call n) (ranged (ltb n 32))
+word_width_order n = in_order _ refl refl
 
-pub buffer-width-order : (n : ℕ) → InOrder (types.bufferWidthCall n) (ranged (ltb n 13))
-buffer-width-order n = in_order _ refl refl
+pub buffer_width_order : (n : ℕ) → InOrder (types.buffer_width_call n) (ranged (ltb n 13))
+buffer_width_order n = in_order _ refl refl
 
 module _ (t : Table) where
-  pub check-table-order : InOrder (types.checkTableCall t) (sound t)
-  check-table-order = in_order _ refl refl
+  pub check_table_order : InOrder (types.check_table_call t) (sound t)
+  check_table_order = in_order _ refl refl
 
-  pub facts-of-order : (n : ℕ) → InOrder (types.factsOfCall t n) (asked t (n ∷ []) [])
-  facts-of-order n = in_order _ refl refl
+  pub facts_of_order : (n : ℕ) → InOrder (types.facts_of_call t n) (asked t (n ∷ []) [])
+  facts_of_order n = in_order _ refl refl
 
-  pub same-type-order : (a b : ℕ) → InOrder (types.sameTypeCall t a b) (asked t (a ∷ b ∷ []) [])
-  same-type-order a b = in_order _ refl refl
+  pub same_type_order : (a b : ℕ) → InOrder (types.same_type_call t a b) (asked t (a ∷ b ∷ []) [])
+  same_type_order a b = in_order _ refl refl
 
-  pub is-unit-order : (n : ℕ) → InOrder (types.isUnitCall t n) (asked t (n ∷ []) [])
-  is-unit-order n = in_order _ refl refl
+  pub is_unit_order : (n : ℕ) → InOrder (types.is_unit_call t n) (asked t (n ∷ []) [])
+  is_unit_order n = in_order _ refl refl
 
-  pub is-empty-order : (n : ℕ) → InOrder (types.isEmptyCall t n) (asked t (n ∷ []) [])
-  is-empty-order n = in_order _ refl refl
+  pub is_empty_order : (n : ℕ) → InOrder (types.is_empty_call t n) (asked t (n ∷ []) [])
+  is_empty_order n = in_order _ refl refl
 
-  pub type-as-sum-order : (n : ℕ) → InOrder (types.typeAsSumCall t n) (asked t (n ∷ []) (shaped (isSum (type_at t n))))
-  type-as-sum-order n = in_order _ refl refl
+  pub type_as_sum_order : (n : ℕ) → InOrder (types.type_as_sum_call t n) (asked t (n ∷ []) (shaped (is_sum (type_at t n))))
+  type_as_sum_order n = in_order _ refl refl
 
-  pub type-as-product-order : (n : ℕ) → InOrder (types.typeAsProductCall t n) (asked t (n ∷ []) (shaped (isProd (type_at t n))))
-  type-as-product-order n = in_order _ refl refl
+  pub type_as_product_order : (n : ℕ) → InOrder (types.type_as_product_call t n) (asked t (n ∷ []) (shaped (is_prod (type_at t n))))
+  type_as_product_order n = in_order _ refl refl
 
-  pub pad-left-order : (a b : ℕ) → InOrder (types.padLeftCall t a b) (asked t (a ∷ b ∷ []) [])
-  pad-left-order a b = in_order _ refl refl
+  pub pad_left_order : (a b : ℕ) → InOrder (types.pad_left_call t a b) (asked t (a ∷ b ∷ []) [])
+  pad_left_order a b = in_order _ refl refl
 
-  pub pad-right-order : (a b : ℕ) → InOrder (types.padRightCall t a b) (asked t (a ∷ b ∷ []) [])
-  pad-right-order a b = in_order _ refl refl
+  pub pad_right_order : (a b : ℕ) → InOrder (types.pad_right_call t a b) (asked t (a ∷ b ∷ []) [])
+  pad_right_order a b = in_order _ refl refl
 
-  pub as-word-order : (n : ℕ) → InOrder (types.asWordCall t n) (asked t (n ∷ []) (shaped (ltb (asWord (type_at t n)) 32)))
-  as-word-order n = in_order _ refl refl
+  pub as_word_order : (n : ℕ) → InOrder (types.as_word_call t n) (asked t (n ∷ []) (shaped (ltb (as_word (type_at t n)) 32)))
+  as_word_order n = in_order _ refl refl
 
-  pub is-buffer8-order : (a n : ℕ) → InOrder (types.isBuffer8Call t a n) (asked t (a ∷ []) (ranged (ltb n 13)))
-  is-buffer8-order a n = in_order _ refl refl
+  pub is_buffer8_order : (a n : ℕ) → InOrder (types.is_buffer8_call t a n) (asked t (a ∷ []) (ranged (ltb n 13)))
+  is_buffer8_order a n = in_order _ refl refl
 
-  pub is-ctx8-order : (a : ℕ) → InOrder (types.isCtx8Call t a) (asked t (a ∷ []) [])
-  is-ctx8-order a = in_order _ refl refl
+  pub is_ctx8_order : (a : ℕ) → InOrder (types.is_ctx8_call t a) (asked t (a ∷ []) [])
+  is_ctx8_order a = in_order _ refl refl
 
-  pub as-left-order : (r : Record)
-      → InOrder (records.asLeftCall t r) (handed t (r ∷ []) [] ++ (addressed t r ++ shaped (isSum (type_of t r) && not (tag (recordBits t r)))))
-  as-left-order r = in_order _ refl refl
+  pub as_left_order : (r : Record)
+      → InOrder (records.as_left_call t r) (handed t (r ∷ []) [] ++ (addressed t r ++ shaped (is_sum (type_of t r) && not (tag (record_bits t r)))))
+  as_left_order r = in_order _ refl refl
 
-  pub as-right-order : (r : Record)
-      → InOrder (records.asRightCall t r) (handed t (r ∷ []) [] ++ (addressed t r ++ shaped (isSum (type_of t r) && tag (recordBits t r))))
-  as-right-order r = in_order _ refl refl
+  pub as_right_order : (r : Record)
+      → InOrder (records.as_right_call t r) (handed t (r ∷ []) [] ++ (addressed t r ++ shaped (is_sum (type_of t r) && tag (record_bits t r))))
+  as_right_order r = in_order _ refl refl
 
-  pub as-product-order : (r : Record) → InOrder (records.asProductCall t r) (handed t (r ∷ []) [] ++ (addressed t r ++ shaped (isProd (type_of t r))))
-  as-product-order r = in_order _ refl refl
+  pub as_product_order : (r : Record) → InOrder (records.as_product_call t r) (handed t (r ∷ []) [] ++ (addressed t r ++ shaped (is_prod (type_of t r))))
+  as_product_order r = in_order _ refl refl
 
-  pub equal-order : (a b : Record) → InOrder (records.equalCall t a b) (handed t (a ∷ b ∷ []) [])
-  equal-order a b = in_order _ refl refl
+  pub equal_order : (a b : Record) → InOrder (records.equal_call t a b) (handed t (a ∷ b ∷ []) [])
+  equal_order a b = in_order _ refl refl
 
-  pub compare-order : (a b : Record) → InOrder (records.compareCall t a b) (handed t (a ∷ b ∷ []) [])
-  compare-order a b = in_order _ refl refl
+  pub compare_order : (a b : Record) → InOrder (records.compare_call t a b) (handed t (a ∷ b ∷ []) [])
+  compare_order a b = in_order _ refl refl
 
-  pub compact-len-order : (r : Record) → InOrder (records.compactLenCall t r) (handed t (r ∷ []) [])
-  compact-len-order r = in_order _ refl refl
+  pub compact_len_order : (r : Record) → InOrder (records.compact_len_call t r) (handed t (r ∷ []) [])
+  compact_len_order r = in_order _ refl refl
 
-  pub padded-len-order : (r : Record) → InOrder (records.paddedLenCall t r) (handed t (r ∷ []) [])
-  padded-len-order r = in_order _ refl refl
+  pub padded_len_order : (r : Record) → InOrder (records.padded_len_call t r) (handed t (r ∷ []) [])
+  padded_len_order r = in_order _ refl refl
 
-  pub unit-order : (result : ℕ) (out : List ℕ) → InOrder (records.unitCall t result out) (records.unitRungs t result ++ room_for [] out)
-  unit-order result out = in_order _ refl refl
+  pub unit_order : (result : ℕ) (out : List ℕ) → InOrder (records.unit_call t result out) (records.unit_rungs t result ++ room_for [] out)
+  unit_order result out = in_order _ refl refl
 
-  pub left-order : (p : Record) (result : ℕ) (out : List ℕ)
-      → InOrder (records.leftCall t p result out) (records.leftRungs t p result ++ room_for (records.leftBits t p result) out)
-  left-order p result out = in_order _ refl refl
+  pub left_order : (p : Record) (result : ℕ) (out : List ℕ)
+      → InOrder (records.left_call t p result out) (records.left_rungs t p result ++ room_for (records.left_bits t p result) out)
+  left_order p result out = in_order _ refl refl
 
-  pub right-order : (p : Record) (result : ℕ) (out : List ℕ)
-      → InOrder (records.rightCall t p result out) (records.rightRungs t p result ++ room_for (records.rightBits t p result) out)
-  right-order p result out = in_order _ refl refl
+  pub right_order : (p : Record) (result : ℕ) (out : List ℕ)
+      → InOrder (records.right_call t p result out) (records.right_rungs t p result ++ room_for (records.right_bits t p result) out)
+  right_order p result out = in_order _ refl refl
 
-  pub product-order : (a b : Record) (result : ℕ) (out : List ℕ)
-      → InOrder (records.productCall t a b result out) (records.productRungs t a b result ++ room_for (records.productBits t a b) out)
-  product-order a b result out = in_order _ refl refl
+  pub product_order : (a b : Record) (result : ℕ) (out : List ℕ)
+      → InOrder (records.product_call t a b result out) (records.product_rungs t a b result ++ room_for (records.product_bits t a b) out)
+  product_order a b result out = in_order _ refl refl
 
-  pub none-order : (result : ℕ) (out : List ℕ)
-      → InOrder (records.noneCall t result out) (records.noneRungs t result ++ room_for (records.noneBits t result) out)
-  none-order result out = in_order _ refl refl
+  pub none_order : (result : ℕ) (out : List ℕ)
+      → InOrder (records.none_call t result out) (records.none_rungs t result ++ room_for (records.none_bits t result) out)
+  none_order result out = in_order _ refl refl
 
-  pub some-order : (p : Record) (result : ℕ) (out : List ℕ)
-      → InOrder (records.someCall t p result out) (records.someRungs t p result ++ room_for (records.someBits t p result) out)
-  some-order p result out = in_order _ refl refl
+  pub some_order : (p : Record) (result : ℕ) (out : List ℕ)
+      → InOrder (records.some_call t p result out) (records.some_rungs t p result ++ room_for (records.some_bits t p result) out)
+  some_order p result out = in_order _ refl refl
 
-  pub zero-order : (result : ℕ) (out : List ℕ)
-      → InOrder (records.zeroCall t result out) (records.zeroRungs t result ++ room_for (records.zeroBits t result) out)
-  zero-order result out = in_order _ refl refl
+  pub zero_order : (result : ℕ) (out : List ℕ)
+      → InOrder (records.zero_call t result out) (records.zero_rungs t result ++ room_for (records.zero_bits t result) out)
+  zero_order result out = in_order _ refl refl
 
-  pub number-order : (n x result : ℕ) (out : List ℕ)
-      → InOrder (words.numberCall t n x result out) (words.numberRungs t n x result ++ room_for (to_bits (2 ^ n) x) out)
-  number-order n x result out = in_order _ refl refl
+  pub number_order : (n x result : ℕ) (out : List ℕ)
+      → InOrder (words.number_call t n x result out) (words.number_rungs t n x result ++ room_for (to_bits (2 ^ n) x) out)
+  number_order n x result out = in_order _ refl refl
 
-  pub bytes-order : (n : ℕ) (given : List ℕ) (result : ℕ) (out : List ℕ)
-      → InOrder (words.bytesCall t n given result out) (words.bytesRungs t n given result ++ room_for (bits_of given) out)
-  bytes-order n given result out = in_order _ refl refl
+  pub bytes_order : (n : ℕ) (given : List ℕ) (result : ℕ) (out : List ℕ)
+      → InOrder (words.bytes_call t n given result out) (words.bytes_rungs t n given result ++ room_for (bits_of given) out)
+  bytes_order n given result out = in_order _ refl refl
 
-  pub array-order : (given : List ℕ) (result : ℕ) (out : List ℕ)
-      → InOrder (words.arrayCall t given result out) (words.arrayRungs t given result ++ room_for (bits_of given) out)
-  array-order given result out = in_order _ refl refl
+  pub array_order : (given : List ℕ) (result : ℕ) (out : List ℕ)
+      → InOrder (words.array_call t given result out) (words.array_rungs t given result ++ room_for (bits_of given) out)
+  array_order given result out = in_order _ refl refl
 
-  pub join-order : (a b : Record) (result : ℕ) (out : List ℕ)
-      → InOrder (words.joinCall t a b result out) (words.joinRungs t a b result ++ room_for (records.productBits t a b) out)
-  join-order a b result out = in_order _ refl refl
+  pub join_order : (a b : Record) (result : ℕ) (out : List ℕ)
+      → InOrder (words.join_call t a b result out) (words.join_rungs t a b result ++ room_for (records.product_bits t a b) out)
+  join_order a b result out = in_order _ refl refl
 
-  pub word-read-order : (s : Stream) (n node : ℕ) (out : List ℕ)
-      → InOrder (words.wordReadCall t s n node out) (reading (words.wordReadRungs t s n node) (codecs.paddedIn t s node) out)
-  word-read-order s n node out = in_order _ refl refl
+  pub word_read_order : (s : Stream) (n node : ℕ) (out : List ℕ)
+      → InOrder (words.word_read_call t s n node out) (reading (words.word_read_rungs t s n node) (codecs.padded_in t s node) out)
+  word_read_order s n node out = in_order _ refl refl
 
-  pub buffer-order : (n : ℕ) (held : List ℕ) (result : ℕ) (out : List ℕ)
-      → InOrder (words.buffer_call t n held result out) (words.bufferRungs t n held result ++ room_for (bufferBits n held) out)
-  buffer-order n held result out = in_order _ refl refl
+  pub buffer_order : (n : ℕ) (held : List ℕ) (result : ℕ) (out : List ℕ)
+      → InOrder (words.buffer_call t n held result out) (words.buffer_rungs t n held result ++ room_for (buffer_bits n held) out)
+  buffer_order n held result out = in_order _ refl refl
 
-  pub ctx8-order : (s : HashState) (result : ℕ) (out : List ℕ)
-      → InOrder (words.ctx8Call t s result out) (words.ctx8Rungs t s result ++ room_for (ctx8Bits s) out)
-  ctx8-order s result out = in_order _ refl refl
+  pub ctx8_order : (s : HashState) (result : ℕ) (out : List ℕ)
+      → InOrder (words.ctx8_call t s result out) (words.ctx8_rungs t s result ++ room_for (ctx8_bits s) out)
+  ctx8_order s result out = in_order _ refl refl
 
-  pub from-range-order : (result : ℕ) (in_range right : Bool) (v : List Bool) (out : List ℕ)
-      → InOrder (makes (words.fromRange t result in_range right) v out) (words.fromRange t result in_range right ++ room_for v out)
-  from-range-order result in_range right v out = in_order _ refl refl
+  pub from_range_order : (result : ℕ) (in_range right : Bool) (v : List Bool) (out : List ℕ)
+      → InOrder (makes (words.from_range t result in_range right) v out) (words.from_range t result in_range right ++ room_for v out)
+  from_range_order result in_range right v out = in_order _ refl refl
 
-  pub from-compact-order : (s : Stream) (node : ℕ) (out : List ℕ)
-      → InOrder (codecs.fromCompactCall t s node out) (reading (codecs.readRungs t s node) (codecs.compactIn t s node) out)
-  from-compact-order s node out = in_order _ refl refl
+  pub from_compact_order : (s : Stream) (node : ℕ) (out : List ℕ)
+      → InOrder (codecs.from_compact_call t s node out) (reading (codecs.read_rungs t s node) (codecs.compact_in t s node) out)
+  from_compact_order s node out = in_order _ refl refl
 
-  pub from-padded-order : (s : Stream) (node : ℕ) (out : List ℕ)
-      → InOrder (codecs.fromPaddedCall t s node out) (reading (codecs.readRungs t s node) (codecs.paddedIn t s node) out)
-  from-padded-order s node out = in_order _ refl refl
+  pub from_padded_order : (s : Stream) (node : ℕ) (out : List ℕ)
+      → InOrder (codecs.from_padded_call t s node out) (reading (codecs.read_rungs t s node) (codecs.padded_in t s node) out)
+  from_padded_order s node out = in_order _ refl refl
 
-  pub to-compact-order : (r : Record) (out : List ℕ)
-      → InOrder (codecs.toCompactCall t r out) (codecs.writeRungs t r ++ room_for (codecs.compactBits t r) out)
-  to-compact-order r out = in_order _ refl refl
+  pub to_compact_order : (r : Record) (out : List ℕ)
+      → InOrder (codecs.to_compact_call t r out) (codecs.write_rungs t r ++ room_for (codecs.compact_bits t r) out)
+  to_compact_order r out = in_order _ refl refl
 
-  pub to-padded-order : (r : Record) (out : List ℕ) → InOrder (codecs.toPaddedCall t r out) (codecs.writeRungs t r ++ room_for (recordBits t r) out)
-  to-padded-order r out = in_order _ refl refl
+  pub to_padded_order : (r : Record) (out : List ℕ) → InOrder (codecs.to_padded_call t r out) (codecs.write_rungs t r ++ room_for (record_bits t r) out)
+  to_padded_order r out = in_order _ refl refl
 
-  pub prune-order : (r : Record) (target : ℕ) (out : List ℕ)
-      → InOrder (cuts.pruneCall t r target out) (cuts.pruneRungs t r target ++ room_for (cuts.cutBits (cuts.cut_of t r target)) out)
-  prune-order r target out = in_order _ refl refl
+  pub prune_order : (r : Record) (target : ℕ) (out : List ℕ)
+      → InOrder (cuts.prune_call t r target out) (cuts.prune_rungs t r target ++ room_for (cuts.cut_bits (cuts.cut_of t r target)) out)
+  prune_order r target out = in_order _ refl refl

@@ -1,22 +1,22 @@
 // The text of a report, written into a lent buffer: lines, and the whole report of a table or of a refusal.
 // Each function says which text stands at its offset afterwards and answers the offset after it; the rest of the buffer stays.
 ghost use Rattle.std.specs.Prelude.{◌+◌, ◌≤◌, length};
-ghost use Rattle.lines_digits.specs.Report.{headLine, nodeLine, refusalLine, groupsText};
+ghost use Rattle.lines_digits.specs.Report.{head_line, node_line, refusal_line, groups_text};
 ghost use Rattle.lines_digits.specs.Buffer.{PutAt, Printed};
-ghost use Rattle.lines.specs.Room.{headRoom, lineRoom, Reportable};
+ghost use Rattle.lines.specs.Room.{head_room, line_room, Reportable};
 
 use lines_digits::{put_kind, put_number, put_word};
 
-// The bytes that hold any first line: `headRoom`.
+// The bytes that hold any first line: `head_room`.
 pub const HEAD_BYTES: usize = 27;
 
-// The bytes that hold any line of a node: `lineRoom`.
+// The bytes that hold any line of a node: `line_room`.
 pub const LINE_BYTES: usize = 117;
 
 // The first line of a report.
 pub fn head_line(out: &mut [u8], at: usize, count: usize) -> usize
-    requires { at + headRoom ≤ length out.old }
-    ensures { PutAt out.old at (headLine count) out.new result }
+    requires { at + head_room ≤ length out.old }
+    ensures { PutAt out.old at (head_line count) out.new result }
 {
     let number = put_word(out, at, b"nodes ");
     put_number(out, number, count as u64, b'\n')
@@ -34,8 +34,8 @@ pub fn node_line(
     class: usize,
     least: u64,
 ) -> usize
-    requires { at + lineRoom ≤ length out.old }
-    ensures { PutAt out.old at (nodeLine k kind width size padded class least) out.new result }
+    requires { at + line_room ≤ length out.old }
+    ensures { PutAt out.old at (node_line k kind width size padded class least) out.new result }
 {
     let kind_at = put_number(out, at, k as u64, b' ');
     let width_at = put_kind(out, kind_at, kind);
@@ -49,7 +49,7 @@ pub fn node_line(
 // The line of a refusal.
 pub fn refusal_line(out: &mut [u8], number: u8, place: usize) -> usize
     requires { 64 ≤ length out.old }
-    ensures { Printed out.old (refusalLine number place) out.new result }
+    ensures { Printed out.old (refusal_line number place) out.new result }
 {
     let number_at = put_word(out, 0, b"refused ");
     let word_at = put_number(out, number_at, number as u64, b' ');
@@ -61,7 +61,7 @@ pub fn refusal_line(out: &mut [u8], number: u8, place: usize) -> usize
 pub fn report(out: &mut [u8], kinds: &[u8], groups: &[u8], count: usize) -> usize
     requires { Reportable out.old kinds.now groups.now count }
     ensures { Printed out.old
-        (groupsText kinds.now groups.now count)
+        (groups_text kinds.now groups.now count)
         out.new result }
 {
     let mut at = head_line(out, 0, count);

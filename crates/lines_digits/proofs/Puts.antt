@@ -1,14 +1,14 @@
 -- Laws of a buffer that text is written to.
 --
---   put-none put-length         no text changes nothing; a buffer keeps its length
---   put-put                     one text after another is both
---   wrote_none wrote-byte       no text, and one byte
---   wrote_then wrote-short      one text after another
---   wrote-length                a buffer that was written to keeps its length
---   wrote-within                a short text ends soon
---   wrote-text                  another name of the same text
+--   put_none put_length         no text changes nothing; a buffer keeps its length
+--   put_put                     one text after another is both
+--   wrote_none wrote_byte       no text, and one byte
+--   wrote_then wrote_short      one text after another
+--   wrote_length                a buffer that was written to keeps its length
+--   wrote_within                a short text ends soon
+--   wrote_text                  another name of the same text
 --   printed                     a text at offset 0 is at the front
---   printed-text                what the buffer begins with is the text
+--   printed_text                what the buffer begins with is the text
 -- Assumes nothing.
 use Prim.Native.Nat.{ℕ, suc, ◌+◌, ◌≤◌, ◌<◌}
 use mathlib.Core.Path.{◌≡◌, refl, ap, sym, ◌∙◌, subst}
@@ -20,18 +20,18 @@ use lib.ListN.{length, take, drop, set, length-append, length-take, length-drop,
 use lib.Seq.{set_split, take_at, drop-append-add, drop-drop, append_snoc}
 use Rattle.lines_digits.specs.Buffer.{put, PutAt, Printed}
 
-pub put-none : (b : List ℕ) (at : ℕ) → put b at [] ≡ b
-put-none b at = rw (add-zero, append-nil) (take-append-drop at b)
+pub put_none : (b : List ℕ) (at : ℕ) → put b at [] ≡ b
+put_none b at = rw (add-zero, append-nil) (take-append-drop at b)
 
 -- What stands before the end of a text.
 front_length : (b : List ℕ) (at : ℕ) (s : List ℕ) → at + length s ≤ length b → length (take at b ++ s) ≡ at + length s
 front_length b at s h = simp (length-append, length-take) (omega arith)
 
-pub put-length : (b : List ℕ) (at : ℕ) (s : List ℕ) → at + length s ≤ length b → length (put b at s) ≡ length b
-put-length b at s h = simp (length-append, length-take, length-drop) (omega arith)
+pub put_length : (b : List ℕ) (at : ℕ) (s : List ℕ) → at + length s ≤ length b → length (put b at s) ≡ length b
+put_length b at s h = simp (length-append, length-take, length-drop) (omega arith)
 
-pub put-put : (b : List ℕ) (at : ℕ) (s t : List ℕ) → at + length s ≤ length b → put (put b at s) (at + length s) t ≡ put b at (s ++ t)
-put-put b at s t h =
+pub put_put : (b : List ℕ) (at : ℕ) (s t : List ℕ) → at + length s ≤ length b → put (put b at s) (at + length s) t ≡ put b at (s ++ t)
+put_put b at s t h =
     let p = take at b ++ s in
     let q = drop (at + length s) b in
     let e : at + length s + length t ≡ at + length (s ++ t) = omega (arith, length-append s t) in
@@ -41,8 +41,8 @@ put-put b at s t h =
     ∙ ap (λ x. x ++ drop (at + length s + length t) b) (append_assoc (take at b) s t)
     ∙ ap (λ n. take at b ++ (s ++ t) ++ drop n b) e
 
-pub wrote-byte : (b : List ℕ) (at v : ℕ) → at < length b → PutAt b at (v ∷ []) (set b at v) (at + 1)
-wrote-byte b at v h =
+pub wrote_byte : (b : List ℕ) (at v : ℕ) → at < length b → PutAt b at (v ∷ []) (set b at v) (at + 1)
+wrote_byte b at v h =
     record {
       ends = refl;
       holds = set_split b at v h ∙ sym (append_snoc (take at b) v (drop (suc at) b)) ∙ ap (λ n. take at b ++ (v ∷ []) ++ drop n b) (sym (add-one at));
@@ -53,29 +53,29 @@ pub wrote_then : {b : List ℕ} {at : ℕ} {s m : List ℕ} {x : ℕ} {t a : Lis
 wrote_then {b} {at} {s} {m} {x} {t} {a} {y} w h v =
     record {
       ends = (let e = w.ends in let f = v.ends in omega (arith, length-append s t));
-      holds = v.holds ∙ (λ i. put (w.holds i) (w.ends i) t) ∙ put-put b at s t h;
+      holds = v.holds ∙ (λ i. put (w.holds i) (w.ends i) t) ∙ put_put b at s t h;
     }
 
 -- The same, where the first text is known to be short.
-pub wrote-short : {b : List ℕ} {at : ℕ} {s m : List ℕ} {x k : ℕ} {t a : List ℕ} {y : ℕ} → PutAt b at s m x → length s ≤ k → at + k ≤ length b
+pub wrote_short : {b : List ℕ} {at : ℕ} {s m : List ℕ} {x k : ℕ} {t a : List ℕ} {y : ℕ} → PutAt b at s m x → length s ≤ k → at + k ≤ length b
     → PutAt m x t a y → PutAt b at (s ++ t) a y
-wrote-short w short room v = wrote_then w (omega arith) v
+wrote_short w short room v = wrote_then w (omega arith) v
 
-pub wrote-length : (b : List ℕ) (at : ℕ) (s a : List ℕ) (x : ℕ) → at + length s ≤ length b → PutAt b at s a x → length a ≡ length b
-wrote-length b at s a x h w = ap length w.holds ∙ put-length b at s h
+pub wrote_length : (b : List ℕ) (at : ℕ) (s a : List ℕ) (x : ℕ) → at + length s ≤ length b → PutAt b at s a x → length a ≡ length b
+wrote_length b at s a x h w = ap length w.holds ∙ put_length b at s h
 
-pub wrote-within : {b : List ℕ} {at : ℕ} {s a : List ℕ} {x m : ℕ} → PutAt b at s a x → length s ≤ m → x ≤ at + m
-wrote-within w h = omega (arith, w.ends)
+pub wrote_within : {b : List ℕ} {at : ℕ} {s a : List ℕ} {x m : ℕ} → PutAt b at s a x → length s ≤ m → x ≤ at + m
+wrote_within w h = omega (arith, w.ends)
 
-pub wrote-text : {b : List ℕ} {at : ℕ} {s t a : List ℕ} {x : ℕ} → s ≡ t → PutAt b at s a x → PutAt b at t a x
-wrote-text {b} {at} {s} {t} {a} {x} e w = subst (λ u. PutAt b at u a x) e w
+pub wrote_text : {b : List ℕ} {at : ℕ} {s t a : List ℕ} {x : ℕ} → s ≡ t → PutAt b at s a x → PutAt b at t a x
+wrote_text {b} {at} {s} {t} {a} {x} e w = subst (λ u. PutAt b at u a x) e w
 
 pub printed : {b s a : List ℕ} {x : ℕ} → PutAt b 0 s a x → Printed b s a x
 printed {b} {s} {a} {x} w =
     record { counts = w.ends ∙ zero-add (length s); holds = w.holds ∙ ap (λ n. s ++ drop n b) (zero-add (length s)) }
 
-pub printed-text : {b s a : List ℕ} {x : ℕ} → Printed b s a x → take x a ≡ s
-printed-text {b} {s} {a} {x} w = ap (take x) w.holds ∙ take_at s (drop (length s) b) x (sym w.counts)
+pub printed_text : {b s a : List ℕ} {x : ℕ} → Printed b s a x → take x a ≡ s
+printed_text {b} {s} {a} {x} w = ap (take x) w.holds ∙ take_at s (drop (length s) b) x (sym w.counts)
 
 pub wrote_none : (b : List ℕ) (at : ℕ) → PutAt b at [] b at
-wrote_none b at = record { ends = sym (add-zero at); holds = sym (put-none b at) }
+wrote_none b at = record { ends = sym (add-zero at); holds = sym (put_none b at) }

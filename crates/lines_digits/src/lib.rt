@@ -1,7 +1,7 @@
 // The parts of a report's lines, written into a lent buffer: numbers, words and the words of kinds.
 // Each function says which text stands at its offset afterwards and answers the offset after it; the rest of the buffer stays.
 ghost use Rattle.std.specs.Prelude.{◌+◌, ◌≤◌, [], ◌∷◌, ◌++◌, length};
-ghost use Rattle.lines_digits.specs.Report.{ascii, decimal, kindWord};
+ghost use Rattle.lines_digits.specs.Report.{ascii, decimal, kind_word};
 ghost use Rattle.lines_digits.specs.Buffer.{PutAt};
 
 // A number in decimal, the leading digits first.
@@ -44,7 +44,7 @@ pub fn put_word(out: &mut [u8], at: usize, word: &[u8]) -> usize
 // The word of a kind, and a space.
 pub fn put_kind(out: &mut [u8], at: usize, kind: u8) -> usize
     requires { at + 8 ≤ length out.old }
-    ensures { PutAt out.old at (kindWord kind ++ ascii " ") out.new result }
+    ensures { PutAt out.old at (kind_word kind ++ ascii " ") out.new result }
 {
     if kind == 0 {
         return put_word(out, at, b"unit ");

@@ -13,8 +13,8 @@ pub record Within (size : ℕ) (r : Run) : Type 0 where
 
 -- All runs of a request lie in the list.
 pub record Lent (size : ℕ) (r : Request) : Type 0 where
-  pub a-within : Within size r.a
-  pub b-within : Within size r.b
-  pub stream-within : Within size r.stream
-  pub data-within : Within size r.data
-  pub buffer-within : Within size r.buffer
+  pub a_within : Within size r.a
+  pub b_within : Within size r.b
+  pub stream_within : Within size r.stream
+  pub data_within : Within size r.data
+  pub buffer_within : Within size r.buffer

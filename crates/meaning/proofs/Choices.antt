@@ -1,10 +1,10 @@
 -- Laws of the smallest number that passes a test, and of lists of which some member does.
 --
---   least-le          it is at most the bound
---   least-passes      below the bound, it passes
---   least-before      whatever is smaller fails
---   least-unique      a number with these properties is it
---   least-none        where no number below the bound passes, it is the bound
+--   least_le          it is at most the bound
+--   least_passes      below the bound, it passes
+--   least_before      whatever is smaller fails
+--   least_unique      a number with these properties is it
+--   least_none        where no number below the bound passes, it is the bound
 --   either            a test passes or fails
 --   In only           a member of a list; the one member of a list of one
 --   any_none any_some     no member passes, so none does; a member passes, so some does
@@ -17,55 +17,55 @@ use mathlib.Core.Logic.{◌⊎◌, inl, inr}
 use native.Mathlib.Nat.{le_of_suc-le-suc, not-suc-le-zero}
 use native.Mathlib.Omega.{arith}
 use Rattle.meaning.specs.Choice.{any, least}
-use Rattle.meaning.proofs.Tests.{or-none, or_inl, or_inr}
+use Rattle.meaning.proofs.Tests.{or_none, or_inl, or_inr}
 
 pub either : (b : Bool) → (b ≡ true) ⊎ (b ≡ false)
 either true = inl refl
 either false = inr refl
 
-step-le : (b : Bool) (m n : ℕ) → m ≤ n → cond b zero (suc m) ≤ suc n
-step-le true m n h = zero-le
-step-le false m n h = suc-le-suc h
+step_le : (b : Bool) (m n : ℕ) → m ≤ n → cond b zero (suc m) ≤ suc n
+step_le true m n h = zero-le
+step_le false m n h = suc-le-suc h
 
-pub least-le : (p : ℕ → Bool) (n : ℕ) → least p n ≤ n
+pub least_le : (p : ℕ → Bool) (n : ℕ) → least p n ≤ n
 unfolding least
-least-le p zero = zero-le
-least-le p (suc n) = step-le (p zero) (least (λ k. p (suc k)) n) n (least-le (λ k. p (suc k)) n)
+least_le p zero = zero-le
+least_le p (suc n) = step_le (p zero) (least (λ k. p (suc k)) n) n (least_le (λ k. p (suc k)) n)
 
-step-passes : (p : ℕ → Bool) (b : Bool) (m n : ℕ) → p zero ≡ b → (m < n → p (suc m) ≡ true) → cond b zero (suc m) < suc n → p (cond b zero (suc m)) ≡ true
-step-passes p true m n e f h = e
-step-passes p false m n e f h = f (le_of_suc-le-suc h)
+step_passes : (p : ℕ → Bool) (b : Bool) (m n : ℕ) → p zero ≡ b → (m < n → p (suc m) ≡ true) → cond b zero (suc m) < suc n → p (cond b zero (suc m)) ≡ true
+step_passes p true m n e f h = e
+step_passes p false m n e f h = f (le_of_suc-le-suc h)
 
-pub least-passes : (p : ℕ → Bool) (n : ℕ) → least p n < n → p (least p n) ≡ true
+pub least_passes : (p : ℕ → Bool) (n : ℕ) → least p n < n → p (least p n) ≡ true
 unfolding least
-least-passes p zero h = absurd (not-suc-le-zero h)
-least-passes p (suc n) h = step-passes p (p zero) (least (λ k. p (suc k)) n) n refl (least-passes (λ k. p (suc k)) n) h
+least_passes p zero h = absurd (not-suc-le-zero h)
+least_passes p (suc n) h = step_passes p (p zero) (least (λ k. p (suc k)) n) n refl (least_passes (λ k. p (suc k)) n) h
 
-step-before : (p : ℕ → Bool) (b : Bool) (m : ℕ) → p zero ≡ b → ((k : ℕ) → k < m → p (suc k) ≡ false) → (k : ℕ) → k < cond b zero (suc m) → p k ≡ false
-step-before p true m e f k h = absurd (not-suc-le-zero h)
-step-before p false m e f zero h = e
-step-before p false m e f (suc k) h = f k (le_of_suc-le-suc h)
+step_before : (p : ℕ → Bool) (b : Bool) (m : ℕ) → p zero ≡ b → ((k : ℕ) → k < m → p (suc k) ≡ false) → (k : ℕ) → k < cond b zero (suc m) → p k ≡ false
+step_before p true m e f k h = absurd (not-suc-le-zero h)
+step_before p false m e f zero h = e
+step_before p false m e f (suc k) h = f k (le_of_suc-le-suc h)
 
-pub least-before : (p : ℕ → Bool) (n k : ℕ) → k < least p n → p k ≡ false
+pub least_before : (p : ℕ → Bool) (n k : ℕ) → k < least p n → p k ≡ false
 unfolding least
-least-before p zero k h = absurd (not-suc-le-zero h)
-least-before p (suc n) k h = step-before p (p zero) (least (λ j. p (suc j)) n) refl (least-before (λ j. p (suc j)) n) k h
+least_before p zero k h = absurd (not-suc-le-zero h)
+least_before p (suc n) k h = step_before p (p zero) (least (λ j. p (suc j)) n) refl (least_before (λ j. p (suc j)) n) k h
 
-pub least-unique : (p : ℕ → Bool) (n m : ℕ) → m ≤ n → ((k : ℕ) → k < m → p k ≡ false) → (m < n → p m ≡ true) → least p n ≡ m
+pub least_unique : (p : ℕ → Bool) (n m : ℕ) → m ≤ n → ((k : ℕ) → k < m → p k ≡ false) → (m < n → p m ≡ true) → least p n ≡ m
 unfolding least
-least-unique p zero zero h before passes = refl
-least-unique p zero (suc m) h before passes = absurd (not-suc-le-zero h)
-least-unique p (suc n) zero h before passes = ap (λ (b : Bool). cond b zero (suc (least (λ k. p (suc k)) n))) (passes (suc-le-suc zero-le))
-least-unique p (suc n) (suc m) h before passes =
+least_unique p zero zero h before passes = refl
+least_unique p zero (suc m) h before passes = absurd (not-suc-le-zero h)
+least_unique p (suc n) zero h before passes = ap (λ (b : Bool). cond b zero (suc (least (λ k. p (suc k)) n))) (passes (suc-le-suc zero-le))
+least_unique p (suc n) (suc m) h before passes =
     ap (λ (b : Bool). cond b zero (suc (least (λ k. p (suc k)) n))) (before zero (suc-le-suc zero-le))
     ∙ ap suc
-    (least-unique (λ k. p (suc k)) n m (le_of_suc-le-suc h) (λ k l. before (suc k) (suc-le-suc l)) (λ l. passes (suc-le-suc l)))
+    (least_unique (λ k. p (suc k)) n m (le_of_suc-le-suc h) (λ k l. before (suc k) (suc-le-suc l)) (λ l. passes (suc-le-suc l)))
 
-pub least-none : (p : ℕ → Bool) (n : ℕ) → ((k : ℕ) → k < n → p k ≡ false) → least p n ≡ n
-least-none p n none = least-unique p n n (omega arith) none (λ h. absurd (not-less h))
+pub least_none : (p : ℕ → Bool) (n : ℕ) → ((k : ℕ) → k < n → p k ≡ false) → least p n ≡ n
+least_none p n none = least_unique p n n (omega arith) none (λ h. absurd (not_less h))
   where
-    not-less : n < n → ⊥
-    not-less h = omega arith
+    not_less : n < n → ⊥
+    not_less h = omega arith
 
 -- A member of a list.
 abbrev pub In : {A : Type 0} → A → List A → Type 0
@@ -78,7 +78,7 @@ only P y p x (inr i) = absurd i
 
 pub any_none : {A : Type 0} (p : A → Bool) (ys : List A) → ((x : A) → In x ys → p x ≡ false) → any p ys ≡ false
 any_none p [] f = refl
-any_none p (y ∷ ys) f = or-none (p y) (any p ys) (f y (inl refl)) (any_none p ys (λ x i. f x (inr i)))
+any_none p (y ∷ ys) f = or_none (p y) (any p ys) (f y (inl refl)) (any_none p ys (λ x i. f x (inr i)))
 
 pub any_some : {A : Type 0} (p : A → Bool) (ys : List A) (x : A) → In x ys → p x ≡ true → any p ys ≡ true
 any_some p [] x i h = absurd i

@@ -5,7 +5,7 @@
 --   zeros                       bits that are all zero
 --   room                        the bytes that hold a number of bits
 --   bit value                   a bit, and the bits of a list, as a number
---   packTo pack                 the bytes that hold bits, with zero bits after the last
+--   pack_to pack                the bytes that hold bits, with zero bits after the last
 --   written                     an output after a record was written at its bit 0
 use Rattle.std.specs.Prelude.{ℕ, zero, suc, ◌+◌, ◌*◌, ◌/◌, ◌%◌, ◌^◌, Bool, true, false, List, [], ◌∷◌, ◌++◌, length, take, drop, replicate, eqb}
 
@@ -43,13 +43,13 @@ value (suc k) [] = 0
 value (suc k) (b ∷ v) = bit b * 2 ^ k + value k v
 
 -- The k bytes that begin with these bits; what lies after the last bit is zero.
-unfoldable pub packTo : ℕ → List Bool → List ℕ
-packTo zero v = []
-packTo (suc k) v = value 8 v ∷ packTo k (drop 8 v)
+unfoldable pub pack_to : ℕ → List Bool → List ℕ
+pack_to zero v = []
+pack_to (suc k) v = value 8 v ∷ pack_to k (drop 8 v)
 
 -- The bytes that hold these bits and no more.
 unfoldable pub pack : List Bool → List ℕ
-pack v = packTo (room (length v)) v
+pack v = pack_to (room (length v)) v
 
 -- An output after these bits were written to it from bit 0: they take their room, and later bytes stay.
 unfoldable pub written : List Bool → List ℕ → List ℕ

@@ -2,8 +2,8 @@
 -- the other, no byte spare.
 --
 --   low low_bytes                the number that bytes say, and the bytes of a number
---   group groupSize             the group of five facts, and how many bytes it has
---   factIn                      one fact of every node that has a whole group
+--   group group_size            the group of five facts, and how many bytes it has
+--   fact_in                     one fact of every node that has a whole group
 use Rattle.std.specs.Prelude.{ℕ, zero, suc, ◌+◌, ◌*◌, ◌/◌, ◌%◌, List, [], ◌∷◌, ◌++◌, map, length, drop}
 use Rattle.meaning.specs.Choice.{from}
 
@@ -23,9 +23,9 @@ abbrev pub group : ℕ → ℕ → ℕ → ℕ → ℕ → List ℕ
 group w z p k l = low_bytes 8 w ++ (low_bytes 8 z ++ (low_bytes 1 p ++ (low_bytes 2 k ++ low_bytes 8 l)))
 
 -- How many bytes a group has.
-abbrev pub groupSize : ℕ
-groupSize = 27
+abbrev pub group_size : ℕ
+group_size = 27
 
 -- A fact of every node that has a whole group: the number of the k bytes from byte `at` of its group on.
-unfoldable pub factIn : ℕ → ℕ → List ℕ → List ℕ
-factIn at k groups = map (λ n. low k (drop (groupSize * n + at) groups)) (from 0 (length groups / groupSize))
+unfoldable pub fact_in : ℕ → ℕ → List ℕ → List ℕ
+fact_in at k groups = map (λ n. low k (drop (group_size * n + at) groups)) (from 0 (length groups / group_size))

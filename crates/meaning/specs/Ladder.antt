@@ -3,17 +3,17 @@
 --
 --   Answer Rung ladder          answers, a fact with its number and place, the first that holds
 --   kept                        a lent buffer afterwards: as it stood if refused
---   Record record_of Stream stream-of       bytes, offset and node; bytes, length and position, in bits
+--   Record record_of Stream stream_of       bytes, offset and node; bytes, length and position, in bits
 --   type_at type_of               the type of a node, and of a record
---   recordBits rest_of           the own bits of a record; the bits of a stream from its position to its length
+--   record_bits rest_of          the own bits of a record; the bits of a stream from its position to its length
 --   widest largest              the limits of 3 and 4
---   sound present small named within streamFits ranged shaped room_for
+--   sound present small named within stream_fits ranged shaped room_for
 --                               the rungs that many calls share: 1; 2; 3 and 4; 1 to 4; 5; 5; 6; 7; 9
 --   makes made                  a call that writes bits: its answer and its output
 use Rattle.std.specs.Prelude.{ℕ, zero, suc, ◌+◌, ◌*◌, ◌-◌, Bool, true, false, not, ◌&&◌, ◌||◌, List, [], ◌∷◌, ◌++◌, length, take, drop, eqb, ltb, leb}
 use Rattle.meaning.specs.Choice.{any}
 use Rattle.meaning.specs.Types.{Ty, bits, size}
-use Rattle.meaning.specs.Tables.{Table, ty_at, countRight, columnsReach, factsReach, firstBad}
+use Rattle.meaning.specs.Tables.{Table, ty_at, count_right, columns_reach, facts_reach, first_bad}
 use Rattle.meaning.specs.Bits.{bits_of, room, written}
 
 -- A refusal with its number and place, or what was accepted.
@@ -53,8 +53,8 @@ pub record Stream : Type 0 where
   pub position : ℕ
 
 -- A stream from its parts.
-abbrev pub stream-of : List ℕ → ℕ → ℕ → Stream
-stream-of b l p = record { bytes = b; until = l; position = p }
+abbrev pub stream_of : List ℕ → ℕ → ℕ → Stream
+stream_of b l p = record { bytes = b; until = l; position = p }
 
 -- The type of a node that a call names.
 abbrev pub type_at : Table → ℕ → Ty
@@ -65,8 +65,8 @@ abbrev pub type_of : Table → Record → Ty
 type_of t r = ty_at t.columns r.node
 
 -- A record's own bits: the next width bits from its offset on.
-unfoldable pub recordBits : Table → Record → List Bool
-recordBits t r = take (bits (type_of t r)) (drop r.offset (bits_of r.bytes))
+unfoldable pub record_bits : Table → Record → List Bool
+record_bits t r = take (bits (type_of t r)) (drop r.offset (bits_of r.bytes))
 
 -- The bits of a stream from its position to its length.
 unfoldable pub rest_of : Stream → List Bool
@@ -75,8 +75,8 @@ rest_of s = drop s.position (take s.until (bits_of s.bytes))
 -- 1: a bad count, a short column or too few groups, at 0; then the first node at fault.
 abbrev pub sound : Table → List Rung
 sound t =
-    rung (not (countRight t.count && columnsReach t.columns t.count && factsReach t.facts t.count)) 1 0
-    ∷ rung (ltb (firstBad t) t.count) 1 (firstBad t)
+    rung (not (count_right t.count && columns_reach t.columns t.count && facts_reach t.facts t.count)) 1 0
+    ∷ rung (ltb (first_bad t) t.count) 1 (first_bad t)
     ∷ []
 
 -- 2: a named node isn't in the table.
@@ -104,8 +104,8 @@ abbrev pub within : Table → List Record → List Rung
 within t rs = rung (any (λ r. ltb (8 * length r.bytes) (r.offset + bits (type_of t r))) rs) 5 0 ∷ []
 
 -- 5: a stream's length runs past the bytes, or the position lies past that length.
-abbrev pub streamFits : Stream → List Rung
-streamFits s = rung (ltb (8 * length s.bytes) s.until || ltb s.until s.position) 5 0 ∷ []
+abbrev pub stream_fits : Stream → List Rung
+stream_fits s = rung (ltb (8 * length s.bytes) s.until || ltb s.until s.position) 5 0 ∷ []
 
 -- 6: a number is outside its range.
 abbrev pub ranged : Bool → List Rung

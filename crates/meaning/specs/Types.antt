@@ -2,12 +2,12 @@
 --
 --   Ty                          a type: unit, a sum or a product
 --   same                        two types are the same tree
---   is_unit isSum isProd         which of the three it is
---   leftSide rightSide          its sides
+--   is_unit is_sum is_prod       which of the three it is
+--   left_side right_side        its sides
 --   bits                        its true width, in bits
 --   top stop                    the end of the 64-bit numbers, and an addition that stops there
 --   width size padded           its facts
---   fewest leastLength          its true least compact length, and as a fact: document 02, K1
+--   fewest least_length         its true least compact length, and as a fact: document 02, K1
 use Rattle.std.specs.Prelude.{ℕ, zero, suc, ◌+◌, ◌-◌, ◌^◌, min, max, Bool, true, false, not, ◌&&◌, ◌||◌, eqb}
 
 -- A type is unit, a sum of two types or a product of two types.
@@ -35,28 +35,28 @@ is_unit (sum a b) = false
 is_unit (prod a b) = false
 
 -- It is a sum.
-abbrev pub isSum : Ty → Bool
-isSum unit = false
-isSum (sum a b) = true
-isSum (prod a b) = false
+abbrev pub is_sum : Ty → Bool
+is_sum unit = false
+is_sum (sum a b) = true
+is_sum (prod a b) = false
 
 -- It is a product.
-abbrev pub isProd : Ty → Bool
-isProd unit = false
-isProd (sum a b) = false
-isProd (prod a b) = true
+abbrev pub is_prod : Ty → Bool
+is_prod unit = false
+is_prod (sum a b) = false
+is_prod (prod a b) = true
 
 -- The left side of a sum or a product.
-abbrev pub leftSide : Ty → Ty
-leftSide unit = unit
-leftSide (sum a b) = a
-leftSide (prod a b) = a
+abbrev pub left_side : Ty → Ty
+left_side unit = unit
+left_side (sum a b) = a
+left_side (prod a b) = a
 
 -- The right side of a sum or a product.
-abbrev pub rightSide : Ty → Ty
-rightSide unit = unit
-rightSide (sum a b) = b
-rightSide (prod a b) = b
+abbrev pub right_side : Ty → Ty
+right_side unit = unit
+right_side (sum a b) = b
+right_side (prod a b) = b
 
 -- The true width: none for unit, one more than the larger side for a sum, both sides for a product.
 unfoldable pub bits : Ty → ℕ
@@ -97,7 +97,7 @@ fewest (sum a b) = 1 + min (fewest a) (fewest b)
 fewest (prod a b) = fewest a + fewest b
 
 -- The least compact length as a 64-bit fact: each addition stops at the end by itself.
-unfoldable pub leastLength : Ty → ℕ
-leastLength unit = 0
-leastLength (sum a b) = stop 1 (min (leastLength a) (leastLength b))
-leastLength (prod a b) = stop (leastLength a) (leastLength b)
+unfoldable pub least_length : Ty → ℕ
+least_length unit = 0
+least_length (sum a b) = stop 1 (min (least_length a) (least_length b))
+least_length (prod a b) = stop (least_length a) (least_length b)

@@ -12,18 +12,18 @@ use Rattle.nodes.specs.declared.Side.{Side}
 -- are those of the trees.
 pub record Reads (t : Table) (n : ℕ) (r : Node) : Type 0 where
   pub tree : ty_at t.columns n ≡ node r.kind (ty_at t.columns r.left) (ty_at t.columns r.right)
-  pub kind-low : r.kind ≤ 2
+  pub kind_low : r.kind ≤ 2
   pub left_is : r.left ≡ left t.columns n
   pub right_is : r.right ≡ right t.columns n
   pub left_in : r.left < t.count
-  pub right-in : r.right < t.count
-  pub left-falls : 1 ≤ r.kind → r.left < n
-  pub right-falls : 1 ≤ r.kind → r.right < n
+  pub right_in : r.right < t.count
+  pub left_falls : 1 ≤ r.kind → r.left < n
+  pub right_falls : 1 ≤ r.kind → r.right < n
   pub width_is : r.width ≡ width (ty_at t.columns n)
-  pub left-width-is : r.left_width ≡ width (ty_at t.columns r.left)
-  pub right-width-is : r.right_width ≡ width (ty_at t.columns r.right)
-  pub padded-is : r.padded ≡ padded (ty_at t.columns n)
-  pub class-is : r.class ≡ class_of t.columns n
+  pub left_width_is : r.left_width ≡ width (ty_at t.columns r.left)
+  pub right_width_is : r.right_width ≡ width (ty_at t.columns r.right)
+  pub padded_is : r.padded ≡ padded (ty_at t.columns n)
+  pub class_is : r.class ≡ class_of t.columns n
 
 -- The side of a node that a tag takes: 0 the left one, 1 the right one.
 abbrev pub side_of : Bool → Node → Side

@@ -22,7 +22,7 @@ use denote.Triple.Entry.{Args, Res}
 use Rattle.meaning.specs.Ladder.{Answer}
 use Rattle.answers.specs.declared.Count.{Count}
 use Rattle.answers.specs.Verdicts.{count_of}
-use Rattle.answers.proofs.Settled.{count-settled}
+use Rattle.answers.proofs.Settled.{count_settled}
 
 module _ {M : Type 1} (𝓤 : Ura M) where
   -- Wherever the contract allows r with x left in the lent memory, and s with y, on the same arguments: r is s, and x is y. `Lasts` has a
@@ -83,7 +83,7 @@ answered verdict settled e r s p q = (settled r s (p ∙ sym q), e)
 -- A count and an output, before which n parameters stand.
 pub written : (n : ℕ) (r s : Count) (x y : After n (List ℕ × Unit {0})) {answer : Answer ℕ} {out : List ℕ}
     → (count_of r ≡ answer) × ((rest n x).0 ≡ out) → (count_of s ≡ answer) × ((rest n y).0 ≡ out) → (r ≡ s) × (x ≡ y)
-written n r s x y p q = (count-settled r s (p.0 ∙ sym q.0), skips n x y (λ i. (same p.1 q.1 i, tt)))
+written n r s x y p q = (count_settled r s (p.0 ∙ sym q.0), skips n x y (λ i. (same p.1 q.1 i, tt)))
 
 -- For C: the result and a number or entries, before which n parameters stand.
 pub lent : {C D : Type 0} (n : ℕ) (x y : After n (D × Unit {0})) {r s result : C} {held : D}

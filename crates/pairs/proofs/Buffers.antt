@@ -14,17 +14,17 @@ use Rattle.words.specs.contracts.ctx8 as ctx8
 use Rattle.exports.specs.contracts.qv_buffer8_two_n_plus_one as qv-buffer8-two-n-plus-one
 use Rattle.exports.specs.contracts.qv_ctx8 as qv-ctx8
 use Rattle.pairs.proofs.Allowed.{Settled, two, three, written, made}
-use Rattle.pairs.proofs.Columns.{tableParams}
+use Rattle.pairs.proofs.Columns.{table_params}
 
 module _ {M : Type 1} {𝓤 : Ura M} (𝓛 : Logic 𝓤) (mem : Memory → SProp 𝓤) (run : Routine → Fun 𝓤) where
-  pub buffer8-two-n-plus-one-settled : Settled 𝓤 buffer8-two-n-plus-one.ended (buffer8-two-n-plus-one.clauses 𝓛 mem run)
-  buffer8-two-n-plus-one-settled κs a g h r s x y = two 𝓤 (written (tableParams + 3) r s x y)
+  pub buffer8_two_n_plus_one_settled : Settled 𝓤 buffer8-two-n-plus-one.ended (buffer8-two-n-plus-one.clauses 𝓛 mem run)
+  buffer8_two_n_plus_one_settled κs a g h r s x y = two 𝓤 (written (table_params + 3) r s x y)
 
-  pub qv-buffer8-two-n-plus-one-settled : Settled 𝓤 qv-buffer8-two-n-plus-one.ended (qv-buffer8-two-n-plus-one.clauses 𝓛 mem run)
-  qv-buffer8-two-n-plus-one-settled κs a g h r s x y = three 𝓤 (made (tableParams + 3) 0 x y)
+  pub qv_buffer8_two_n_plus_one_settled : Settled 𝓤 qv-buffer8-two-n-plus-one.ended (qv-buffer8-two-n-plus-one.clauses 𝓛 mem run)
+  qv_buffer8_two_n_plus_one_settled κs a g h r s x y = three 𝓤 (made (table_params + 3) 0 x y)
 
-  pub ctx8-settled : Settled 𝓤 ctx8.ended (ctx8.clauses 𝓛 mem run)
-  ctx8-settled κs a g h r s x y = two 𝓤 (written (tableParams + 2) r s x y)
+  pub ctx8_settled : Settled 𝓤 ctx8.ended (ctx8.clauses 𝓛 mem run)
+  ctx8_settled κs a g h r s x y = two 𝓤 (written (table_params + 2) r s x y)
 
-  pub qv-ctx8-settled : Settled 𝓤 qv-ctx8.ended (qv-ctx8.clauses 𝓛 mem run)
-  qv-ctx8-settled κs a g h r s x y = three 𝓤 (made (tableParams + 4) 0 x y)
+  pub qv_ctx8_settled : Settled 𝓤 qv-ctx8.ended (qv-ctx8.clauses 𝓛 mem run)
+  qv_ctx8_settled κs a g h r s x y = three 𝓤 (made (table_params + 4) 0 x y)

@@ -1,7 +1,7 @@
 -- The parameters of a table: kinds, lefts, rights, groups and the count. Two contents of which the same is said, one by one, are equal.
 --
---   tableParams                 how many they are, where a call is handed a checked one
---   Four fourTold four          the four that `read_table` is lent to be written
+--   table_params                how many they are, where a call is handed a checked one
+--   Four four_told four         the four that `read_table` is lent to be written
 -- The last over B, what the parameters after them leave. Assumes nothing.
 use Prim.Native.Nat.{ℕ}
 use mathlib.Core.Path.{◌≡◌}
@@ -11,22 +11,22 @@ use base.Logic.{ent, sep}
 use contract.Monad.{fact}
 use Rattle.pairs.proofs.Allowed.{said, also, same}
 
-abbrev pub tableParams : ℕ
-tableParams = 5
+abbrev pub table_params : ℕ
+table_params = 5
 
 abbrev pub Four : Type 0 → Type 0
 Four B = List ℕ × (List ℕ × (List ℕ × (List ℕ × B)))
 
 -- What four clauses say.
 module _ {M : Type 1} (𝓤 : Ura M) {a b c d : Type 0} where
-  pub fourTold : ent 𝓤 (sep 𝓤 (fact 𝓤 a) (sep 𝓤 (fact 𝓤 b) (sep 𝓤 (fact 𝓤 c) (fact 𝓤 d)))) (fact 𝓤 (a × (b × (c × d))))
-  fourTold = also 𝓤 (also 𝓤 (also 𝓤 (said 𝓤)))
+  pub four_told : ent 𝓤 (sep 𝓤 (fact 𝓤 a) (sep 𝓤 (fact 𝓤 b) (sep 𝓤 (fact 𝓤 c) (fact 𝓤 d)))) (fact 𝓤 (a × (b × (c × d))))
+  four_told = also 𝓤 (also 𝓤 (also 𝓤 (said 𝓤)))
 
 -- What is said of each.
-abbrev fourAre : {B : Type 0} → Four B → List ℕ → List ℕ → List ℕ → List ℕ → Type 0
-fourAre x kind left right group = (x.0 ≡ kind) × ((x.1.0 ≡ left) × ((x.1.1.0 ≡ right) × (x.1.1.1.0 ≡ group)))
+abbrev four_are : {B : Type 0} → Four B → List ℕ → List ℕ → List ℕ → List ℕ → Type 0
+four_are x kind left right group = (x.0 ≡ kind) × ((x.1.0 ≡ left) × ((x.1.1.0 ≡ right) × (x.1.1.1.0 ≡ group)))
 
-pub four : {B : Type 0} {kind left right group : List ℕ} (x y : Four B) → fourAre x kind left right group → fourAre y kind left right group
+pub four : {B : Type 0} {kind left right group : List ℕ} (x y : Four B) → four_are x kind left right group → four_are y kind left right group
     → x.1.1.1.1 ≡ y.1.1.1.1 → x ≡ y
 four x y p q e = λ i.
     (same p.0 q.0 i, (same p.1.0 q.1.0 i, (same p.1.1.0 q.1.1.0 i, (same p.1.1.1 q.1.1.1 i, e i))))

@@ -14,17 +14,17 @@ use Rattle.words.specs.contracts.word_from_bits as word-from-bits
 use Rattle.exports.specs.contracts.qv_word_product as qv-word-product
 use Rattle.exports.specs.contracts.qv_word_from_bits as qv-word-from-bits
 use Rattle.pairs.proofs.Allowed.{Settled, two, three, written, made}
-use Rattle.pairs.proofs.Columns.{tableParams}
+use Rattle.pairs.proofs.Columns.{table_params}
 
 module _ {M : Type 1} {𝓤 : Ura M} (𝓛 : Logic 𝓤) (mem : Memory → SProp 𝓤) (run : Routine → Fun 𝓤) where
-  pub word-product-settled : Settled 𝓤 word-product.ended (word-product.clauses 𝓛 mem run)
-  word-product-settled κs a g h r s x y = two 𝓤 (written (tableParams + 7) r s x y)
+  pub word_product_settled : Settled 𝓤 word-product.ended (word-product.clauses 𝓛 mem run)
+  word_product_settled κs a g h r s x y = two 𝓤 (written (table_params + 7) r s x y)
 
-  pub qv-word-product-settled : Settled 𝓤 qv-word-product.ended (qv-word-product.clauses 𝓛 mem run)
-  qv-word-product-settled κs a g h r s x y = three 𝓤 (made (tableParams + 7) 0 x y)
+  pub qv_word_product_settled : Settled 𝓤 qv-word-product.ended (qv-word-product.clauses 𝓛 mem run)
+  qv_word_product_settled κs a g h r s x y = three 𝓤 (made (table_params + 7) 0 x y)
 
-  pub word-from-bits-settled : Settled 𝓤 word-from-bits.ended (word-from-bits.clauses 𝓛 mem run)
-  word-from-bits-settled κs a g h r s x y = two 𝓤 (written (tableParams + 5) r s x y)
+  pub word_from_bits_settled : Settled 𝓤 word-from-bits.ended (word-from-bits.clauses 𝓛 mem run)
+  word_from_bits_settled κs a g h r s x y = two 𝓤 (written (table_params + 5) r s x y)
 
-  pub qv-word-from-bits-settled : Settled 𝓤 qv-word-from-bits.ended (qv-word-from-bits.clauses 𝓛 mem run)
-  qv-word-from-bits-settled κs a g h r s x y = three 𝓤 (made (tableParams + 2) 2 x y)
+  pub qv_word_from_bits_settled : Settled 𝓤 qv-word-from-bits.ended (qv-word-from-bits.clauses 𝓛 mem run)
+  qv_word_from_bits_settled κs a g h r s x y = three 𝓤 (made (table_params + 2) 2 x y)

@@ -9,23 +9,23 @@ use prog.Routine.{Routine}
 use types.Logic.{Logic}
 use contract.Monad.{Fun}
 use Rattle.answers.specs.Verdicts.{count_of}
-use Rattle.answers.proofs.Settled.{count-settled}
+use Rattle.answers.proofs.Settled.{count_settled}
 use Rattle.codec.specs.contracts.compact_len as compact-len
 use Rattle.value.specs.contracts.padded_len as padded-len
 use Rattle.exports.specs.contracts.qv_compact_len as qv-compact-len
 use Rattle.exports.specs.contracts.qv_padded_len as qv-padded-len
 use Rattle.pairs.proofs.Allowed.{Settled, one, two, answered, lent}
-use Rattle.pairs.proofs.Columns.{tableParams}
+use Rattle.pairs.proofs.Columns.{table_params}
 
 module _ {M : Type 1} {𝓤 : Ura M} (𝓛 : Logic 𝓤) (mem : Memory → SProp 𝓤) (run : Routine → Fun 𝓤) where
-  pub compact-len-settled : Settled 𝓤 compact-len.ended (compact-len.clauses 𝓛 mem run)
-  compact-len-settled κs a g h r s x y = one 𝓤 (answered count_of count-settled refl r s)
+  pub compact_len_settled : Settled 𝓤 compact-len.ended (compact-len.clauses 𝓛 mem run)
+  compact_len_settled κs a g h r s x y = one 𝓤 (answered count_of count_settled refl r s)
 
-  pub qv-compact-len-settled : Settled 𝓤 qv-compact-len.ended (qv-compact-len.clauses 𝓛 mem run)
-  qv-compact-len-settled κs a g h r s x y = two 𝓤 (lent (tableParams + 3) x y)
+  pub qv_compact_len_settled : Settled 𝓤 qv-compact-len.ended (qv-compact-len.clauses 𝓛 mem run)
+  qv_compact_len_settled κs a g h r s x y = two 𝓤 (lent (table_params + 3) x y)
 
-  pub padded-len-settled : Settled 𝓤 padded-len.ended (padded-len.clauses 𝓛 mem run)
-  padded-len-settled κs a g h r s x y = one 𝓤 (answered count_of count-settled refl r s)
+  pub padded_len_settled : Settled 𝓤 padded-len.ended (padded-len.clauses 𝓛 mem run)
+  padded_len_settled κs a g h r s x y = one 𝓤 (answered count_of count_settled refl r s)
 
-  pub qv-padded-len-settled : Settled 𝓤 qv-padded-len.ended (qv-padded-len.clauses 𝓛 mem run)
-  qv-padded-len-settled κs a g h r s x y = two 𝓤 (lent (tableParams + 3) x y)
+  pub qv_padded_len_settled : Settled 𝓤 qv-padded-len.ended (qv-padded-len.clauses 𝓛 mem run)
+  qv_padded_len_settled κs a g h r s x y = two 𝓤 (lent (table_params + 3) x y)

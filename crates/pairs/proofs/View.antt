@@ -13,8 +13,8 @@ use denote.Ref.{Bor}
 use Rattle.meaning.specs.RecordCalls as records
 use Rattle.meaning.specs.Ladder.{Answer}
 use Rattle.answers.specs.declared.Spot.{Spot}
-use Rattle.answers.specs.Verdicts.{flagOf, spot_of, spotsOf}
-use Rattle.answers.proofs.Settled.{flag-settled, spot-settled as seen-settled, spots-settled}
+use Rattle.answers.specs.Verdicts.{flag_of, spot_of, spots_of}
+use Rattle.answers.proofs.Settled.{flag_settled, spot_settled as seen-settled, spots_settled}
 use Rattle.view.specs.declared.View.{View}
 use Rattle.view.specs.declared.Sub.{Sub}
 use Rattle.view.specs.declared.Subs.{Subs}
@@ -37,38 +37,38 @@ same_view v w p q = λ i. record { bytes = same p.0 q.0 i; offset = same p.1 q.1
 same_spot : (a b : Spot) {offset node : ℕ} → (a.offset ≡ offset) × (a.node ≡ node) → (b.offset ≡ offset) × (b.node ≡ node) → a ≡ b
 same_spot a b p q = λ i. record { offset = same p.0 q.0 i; node = same p.1 q.1 i }
 
-same-sub : (r s : Sub) {bytes : Bor (List ℕ)} {answer : Answer records.Spot}
+same_sub : (r s : Sub) {bytes : Bor (List ℕ)} {answer : Answer records.Spot}
     → (r.bytes ≡ bytes) × (spot_of r.at ≡ answer) → (s.bytes ≡ bytes) × (spot_of s.at ≡ answer) → r ≡ s
-same-sub r s p q = λ i. record { bytes = same p.0 q.0 i; at = seen-settled r.at s.at (same p.1 q.1) i }
+same_sub r s p q = λ i. record { bytes = same p.0 q.0 i; at = seen-settled r.at s.at (same p.1 q.1) i }
 
-same-subs : (r s : Subs) {bytes : Bor (List ℕ)} {answer : Answer records.Spots}
-    → (r.bytes ≡ bytes) × (spotsOf r.at ≡ answer) → (s.bytes ≡ bytes) × (spotsOf s.at ≡ answer) → r ≡ s
-same-subs r s p q = λ i. record { bytes = same p.0 q.0 i; at = spots-settled r.at s.at (same p.1 q.1) i }
+same_subs : (r s : Subs) {bytes : Bor (List ℕ)} {answer : Answer records.Spots}
+    → (r.bytes ≡ bytes) × (spots_of r.at ≡ answer) → (s.bytes ≡ bytes) × (spots_of s.at ≡ answer) → r ≡ s
+same_subs r s p q = λ i. record { bytes = same p.0 q.0 i; at = spots_settled r.at s.at (same p.1 q.1) i }
 
 module _ {M : Type 1} {𝓤 : Ura M} (𝓛 : Logic 𝓤) (mem : Memory → SProp 𝓤) (run : Routine → Fun 𝓤) where
-  pub new-settled : Settled 𝓤 new.ended (new.clauses 𝓛 mem run)
-  new-settled κs a g h r s x y = one 𝓤 (λ p q. (same_view r s p q, refl))
+  pub new_settled : Settled 𝓤 new.ended (new.clauses 𝓛 mem run)
+  new_settled κs a g h r s x y = one 𝓤 (λ p q. (same_view r s p q, refl))
 
-  pub bytes-settled : Settled 𝓤 bytes.ended (bytes.clauses 𝓛 mem run)
-  bytes-settled κs a g h r s x y = one 𝓤 (λ p q. (same p q, refl))
+  pub bytes_settled : Settled 𝓤 bytes.ended (bytes.clauses 𝓛 mem run)
+  bytes_settled κs a g h r s x y = one 𝓤 (λ p q. (same p q, refl))
 
-  pub spot-settled : Settled 𝓤 spot.ended (spot.clauses 𝓛 mem run)
-  spot-settled κs a g h r s x y = one 𝓤 (λ p q. (same_spot r s p q, refl))
+  pub spot_settled : Settled 𝓤 spot.ended (spot.clauses 𝓛 mem run)
+  spot_settled κs a g h r s x y = one 𝓤 (λ p q. (same_spot r s p q, refl))
 
-  pub is-unit-settled : Settled 𝓤 is-unit.ended (is-unit.clauses 𝓛 mem run)
-  is-unit-settled κs a g h r s x y = one 𝓤 (answered flagOf flag-settled refl r s)
+  pub is_unit_settled : Settled 𝓤 is-unit.ended (is-unit.clauses 𝓛 mem run)
+  is_unit_settled κs a g h r s x y = one 𝓤 (answered flag_of flag_settled refl r s)
 
-  pub as-left-settled : Settled 𝓤 as-left.ended (as-left.clauses 𝓛 mem run)
-  as-left-settled κs a g h r s x y = one 𝓤 (λ p q. (same-sub r s p q, refl))
+  pub as_left_settled : Settled 𝓤 as-left.ended (as-left.clauses 𝓛 mem run)
+  as_left_settled κs a g h r s x y = one 𝓤 (λ p q. (same_sub r s p q, refl))
 
-  pub as-right-settled : Settled 𝓤 as-right.ended (as-right.clauses 𝓛 mem run)
-  as-right-settled κs a g h r s x y = one 𝓤 (λ p q. (same-sub r s p q, refl))
+  pub as_right_settled : Settled 𝓤 as-right.ended (as-right.clauses 𝓛 mem run)
+  as_right_settled κs a g h r s x y = one 𝓤 (λ p q. (same_sub r s p q, refl))
 
-  pub as-product-settled : Settled 𝓤 as-product.ended (as-product.clauses 𝓛 mem run)
-  as-product-settled κs a g h r s x y = one 𝓤 (λ p q. (same-subs r s p q, refl))
+  pub as_product_settled : Settled 𝓤 as-product.ended (as-product.clauses 𝓛 mem run)
+  as_product_settled κs a g h r s x y = one 𝓤 (λ p q. (same_subs r s p q, refl))
 
-  pub equal-settled : Settled 𝓤 equal.ended (equal.clauses 𝓛 mem run)
-  equal-settled κs a g h r s x y = one 𝓤 (answered flagOf flag-settled refl r s)
+  pub equal_settled : Settled 𝓤 equal.ended (equal.clauses 𝓛 mem run)
+  equal_settled κs a g h r s x y = one 𝓤 (answered flag_of flag_settled refl r s)
 
-  pub left-spot-settled : Settled 𝓤 left-spot.ended (left-spot.clauses 𝓛 mem run)
-  left-spot-settled κs a g h r s x y = one 𝓤 (answered spot_of seen-settled refl r s)
+  pub left_spot_settled : Settled 𝓤 left-spot.ended (left-spot.clauses 𝓛 mem run)
+  left_spot_settled κs a g h r s x y = one 𝓤 (answered spot_of seen-settled refl r s)

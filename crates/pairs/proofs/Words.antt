@@ -32,71 +32,71 @@ use Rattle.exports.specs.contracts.qv_u256 as qv-u256
 use Rattle.exports.specs.contracts.qv_u512 as qv-u512
 use Rattle.exports.specs.contracts.qv_from_byte_array as qv-from-byte-array
 use Rattle.pairs.proofs.Allowed.{Settled, two, three, written, made}
-use Rattle.pairs.proofs.Columns.{tableParams}
+use Rattle.pairs.proofs.Columns.{table_params}
 
 module _ {M : Type 1} {𝓤 : Ura M} (𝓛 : Logic 𝓤) (mem : Memory → SProp 𝓤) (run : Routine → Fun 𝓤) where
-  pub u1-settled : Settled 𝓤 u1.ended (u1.clauses 𝓛 mem run)
-  u1-settled κs a g h r s x y = two 𝓤 (written (tableParams + 2) r s x y)
+  pub u1_settled : Settled 𝓤 u1.ended (u1.clauses 𝓛 mem run)
+  u1_settled κs a g h r s x y = two 𝓤 (written (table_params + 2) r s x y)
 
-  pub qv-u1-settled : Settled 𝓤 qv-u1.ended (qv-u1.clauses 𝓛 mem run)
-  qv-u1-settled κs a g h r s x y = three 𝓤 (made (tableParams + 2) 0 x y)
+  pub qv_u1_settled : Settled 𝓤 qv-u1.ended (qv-u1.clauses 𝓛 mem run)
+  qv_u1_settled κs a g h r s x y = three 𝓤 (made (table_params + 2) 0 x y)
 
-  pub u2-settled : Settled 𝓤 u2.ended (u2.clauses 𝓛 mem run)
-  u2-settled κs a g h r s x y = two 𝓤 (written (tableParams + 2) r s x y)
+  pub u2_settled : Settled 𝓤 u2.ended (u2.clauses 𝓛 mem run)
+  u2_settled κs a g h r s x y = two 𝓤 (written (table_params + 2) r s x y)
 
-  pub qv-u2-settled : Settled 𝓤 qv-u2.ended (qv-u2.clauses 𝓛 mem run)
-  qv-u2-settled κs a g h r s x y = three 𝓤 (made (tableParams + 2) 0 x y)
+  pub qv_u2_settled : Settled 𝓤 qv-u2.ended (qv-u2.clauses 𝓛 mem run)
+  qv_u2_settled κs a g h r s x y = three 𝓤 (made (table_params + 2) 0 x y)
 
-  pub u4-settled : Settled 𝓤 u4.ended (u4.clauses 𝓛 mem run)
-  u4-settled κs a g h r s x y = two 𝓤 (written (tableParams + 2) r s x y)
+  pub u4_settled : Settled 𝓤 u4.ended (u4.clauses 𝓛 mem run)
+  u4_settled κs a g h r s x y = two 𝓤 (written (table_params + 2) r s x y)
 
-  pub qv-u4-settled : Settled 𝓤 qv-u4.ended (qv-u4.clauses 𝓛 mem run)
-  qv-u4-settled κs a g h r s x y = three 𝓤 (made (tableParams + 2) 0 x y)
+  pub qv_u4_settled : Settled 𝓤 qv-u4.ended (qv-u4.clauses 𝓛 mem run)
+  qv_u4_settled κs a g h r s x y = three 𝓤 (made (table_params + 2) 0 x y)
 
-  pub u8-settled : Settled 𝓤 u8.ended (u8.clauses 𝓛 mem run)
-  u8-settled κs a g h r s x y = two 𝓤 (written (tableParams + 2) r s x y)
+  pub u8_settled : Settled 𝓤 u8.ended (u8.clauses 𝓛 mem run)
+  u8_settled κs a g h r s x y = two 𝓤 (written (table_params + 2) r s x y)
 
-  pub qv-u8-settled : Settled 𝓤 qv-u8.ended (qv-u8.clauses 𝓛 mem run)
-  qv-u8-settled κs a g h r s x y = three 𝓤 (made (tableParams + 2) 0 x y)
+  pub qv_u8_settled : Settled 𝓤 qv-u8.ended (qv-u8.clauses 𝓛 mem run)
+  qv_u8_settled κs a g h r s x y = three 𝓤 (made (table_params + 2) 0 x y)
 
-  pub u16-settled : Settled 𝓤 u16.ended (u16.clauses 𝓛 mem run)
-  u16-settled κs a g h r s x y = two 𝓤 (written (tableParams + 2) r s x y)
+  pub u16_settled : Settled 𝓤 u16.ended (u16.clauses 𝓛 mem run)
+  u16_settled κs a g h r s x y = two 𝓤 (written (table_params + 2) r s x y)
 
-  pub qv-u16-settled : Settled 𝓤 qv-u16.ended (qv-u16.clauses 𝓛 mem run)
-  qv-u16-settled κs a g h r s x y = three 𝓤 (made (tableParams + 2) 0 x y)
+  pub qv_u16_settled : Settled 𝓤 qv-u16.ended (qv-u16.clauses 𝓛 mem run)
+  qv_u16_settled κs a g h r s x y = three 𝓤 (made (table_params + 2) 0 x y)
 
-  pub u32-settled : Settled 𝓤 u32.ended (u32.clauses 𝓛 mem run)
-  u32-settled κs a g h r s x y = two 𝓤 (written (tableParams + 2) r s x y)
+  pub u32_settled : Settled 𝓤 u32.ended (u32.clauses 𝓛 mem run)
+  u32_settled κs a g h r s x y = two 𝓤 (written (table_params + 2) r s x y)
 
-  pub qv-u32-settled : Settled 𝓤 qv-u32.ended (qv-u32.clauses 𝓛 mem run)
-  qv-u32-settled κs a g h r s x y = three 𝓤 (made (tableParams + 2) 0 x y)
+  pub qv_u32_settled : Settled 𝓤 qv-u32.ended (qv-u32.clauses 𝓛 mem run)
+  qv_u32_settled κs a g h r s x y = three 𝓤 (made (table_params + 2) 0 x y)
 
-  pub u64-settled : Settled 𝓤 u64.ended (u64.clauses 𝓛 mem run)
-  u64-settled κs a g h r s x y = two 𝓤 (written (tableParams + 2) r s x y)
+  pub u64_settled : Settled 𝓤 u64.ended (u64.clauses 𝓛 mem run)
+  u64_settled κs a g h r s x y = two 𝓤 (written (table_params + 2) r s x y)
 
-  pub qv-u64-settled : Settled 𝓤 qv-u64.ended (qv-u64.clauses 𝓛 mem run)
-  qv-u64-settled κs a g h r s x y = three 𝓤 (made (tableParams + 2) 0 x y)
+  pub qv_u64_settled : Settled 𝓤 qv-u64.ended (qv-u64.clauses 𝓛 mem run)
+  qv_u64_settled κs a g h r s x y = three 𝓤 (made (table_params + 2) 0 x y)
 
-  pub u128-settled : Settled 𝓤 u128.ended (u128.clauses 𝓛 mem run)
-  u128-settled κs a g h r s x y = two 𝓤 (written (tableParams + 2) r s x y)
+  pub u128_settled : Settled 𝓤 u128.ended (u128.clauses 𝓛 mem run)
+  u128_settled κs a g h r s x y = two 𝓤 (written (table_params + 2) r s x y)
 
-  pub qv-u128-settled : Settled 𝓤 qv-u128.ended (qv-u128.clauses 𝓛 mem run)
-  qv-u128-settled κs a g h r s x y = three 𝓤 (made (tableParams + 2) 0 x y)
+  pub qv_u128_settled : Settled 𝓤 qv-u128.ended (qv-u128.clauses 𝓛 mem run)
+  qv_u128_settled κs a g h r s x y = three 𝓤 (made (table_params + 2) 0 x y)
 
-  pub u256-settled : Settled 𝓤 u256.ended (u256.clauses 𝓛 mem run)
-  u256-settled κs a g h r s x y = two 𝓤 (written (tableParams + 2) r s x y)
+  pub u256_settled : Settled 𝓤 u256.ended (u256.clauses 𝓛 mem run)
+  u256_settled κs a g h r s x y = two 𝓤 (written (table_params + 2) r s x y)
 
-  pub qv-u256-settled : Settled 𝓤 qv-u256.ended (qv-u256.clauses 𝓛 mem run)
-  qv-u256-settled κs a g h r s x y = three 𝓤 (made (tableParams + 2) 0 x y)
+  pub qv_u256_settled : Settled 𝓤 qv-u256.ended (qv-u256.clauses 𝓛 mem run)
+  qv_u256_settled κs a g h r s x y = three 𝓤 (made (table_params + 2) 0 x y)
 
-  pub u512-settled : Settled 𝓤 u512.ended (u512.clauses 𝓛 mem run)
-  u512-settled κs a g h r s x y = two 𝓤 (written (tableParams + 2) r s x y)
+  pub u512_settled : Settled 𝓤 u512.ended (u512.clauses 𝓛 mem run)
+  u512_settled κs a g h r s x y = two 𝓤 (written (table_params + 2) r s x y)
 
-  pub qv-u512-settled : Settled 𝓤 qv-u512.ended (qv-u512.clauses 𝓛 mem run)
-  qv-u512-settled κs a g h r s x y = three 𝓤 (made (tableParams + 2) 0 x y)
+  pub qv_u512_settled : Settled 𝓤 qv-u512.ended (qv-u512.clauses 𝓛 mem run)
+  qv_u512_settled κs a g h r s x y = three 𝓤 (made (table_params + 2) 0 x y)
 
-  pub from-byte-array-settled : Settled 𝓤 from-byte-array.ended (from-byte-array.clauses 𝓛 mem run)
-  from-byte-array-settled κs a g h r s x y = two 𝓤 (written (tableParams + 2) r s x y)
+  pub from_byte_array_settled : Settled 𝓤 from-byte-array.ended (from-byte-array.clauses 𝓛 mem run)
+  from_byte_array_settled κs a g h r s x y = two 𝓤 (written (table_params + 2) r s x y)
 
-  pub qv-from-byte-array-settled : Settled 𝓤 qv-from-byte-array.ended (qv-from-byte-array.clauses 𝓛 mem run)
-  qv-from-byte-array-settled κs a g h r s x y = three 𝓤 (made (tableParams + 2) 0 x y)
+  pub qv_from_byte_array_settled : Settled 𝓤 qv-from-byte-array.ended (qv-from-byte-array.clauses 𝓛 mem run)
+  qv_from_byte_array_settled κs a g h r s x y = three 𝓤 (made (table_params + 2) 0 x y)

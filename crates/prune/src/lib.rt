@@ -5,7 +5,7 @@
 ghost use Rattle.std.specs.Prelude.{◌≡◌};
 ghost use Rattle.meaning.specs.Tables.{table};
 ghost use Rattle.meaning.specs.Ladder.{record_of};
-ghost use Rattle.meaning.specs.CutCalls.{pruneCall, pruneOut};
+ghost use Rattle.meaning.specs.CutCalls.{prune_call, prune_out};
 ghost use Rattle.answers.specs.Verdicts.{count_of};
 
 use answers::{Count, Done};
@@ -24,8 +24,8 @@ pub fn prune(
     target: usize,
     out: &mut [u8],
 ) -> Count
-    ensures result_value { count_of result ≡ pruneCall (table kinds.now lefts.now rights.now groups.now count) (record_of bytes.now offset node) target out.old }
-    ensures out_after { out.new ≡ pruneOut (table kinds.now lefts.now rights.now groups.now count) (record_of bytes.now offset node) target out.old }
+    ensures result_value { count_of result ≡ prune_call (table kinds.now lefts.now rights.now groups.now count) (record_of bytes.now offset node) target out.old }
+    ensures out_after { out.new ≡ prune_out (table kinds.now lefts.now rights.now groups.now count) (record_of bytes.now offset node) target out.old }
 {
     let judged = checked_rungs::record_to(
         kinds, lefts, rights, groups, count, bytes, offset, node, target,

@@ -4,7 +4,7 @@ ghost use Rattle.std.specs.Prelude.{◌≡◌};
 ghost use Rattle.meaning.specs.Types.{bits};
 ghost use Rattle.meaning.specs.Tables.{table};
 ghost use Rattle.meaning.specs.Ladder.{record_of, type_at};
-ghost use Rattle.meaning.specs.CutCalls.{isCut, cut_of};
+ghost use Rattle.meaning.specs.CutCalls.{is_cut, cut_of};
 ghost use Rattle.bits.specs.Runs.{Run};
 ghost use Rattle.checked.specs.Passed.{Named};
 
@@ -23,7 +23,7 @@ pub fn fits(
     requires named { Named (table kinds.now lefts.now rights.now groups.now count) given }
     requires named_2 { Named (table kinds.now lefts.now rights.now groups.now count) target }
     requires run { Run src.now at (bits (type_at (table kinds.now lefts.now rights.now groups.now count) given)) }
-    ensures { result ≡ isCut (cut_of (table kinds.now lefts.now rights.now groups.now count) (record_of src.now at given) target) }
+    ensures { result ≡ is_cut (cut_of (table kinds.now lefts.now rights.now groups.now count) (record_of src.now at given) target) }
 {
     let given_node = nodes::node_at(kinds, lefts, rights, groups, count, given);
     let target_node = nodes::node_at(kinds, lefts, rights, groups, count, target);

@@ -11,14 +11,14 @@ use Rattle.prune_sides.specs.declared.Taken.{Taken}
 
 -- The payload under a tag: its node, and how many bits of tag and padding stand before it.
 pub record UnderTag (n : Node) (g : Bool) (s : Payload) : Type 0 where
-  pub node-is : s.node ≡ (side_of g n).node
-  pub before-is : s.before ≡ n.width - (side_of g n).width
+  pub node_is : s.node ≡ (side_of g n).node
+  pub before_is : s.before ≡ n.width - (side_of g n).width
 
 -- The record at a bit has a tag, and neither its node nor the target is narrower than one of its sides.
 pub record Sums (src : List ℕ) (at : ℕ) (given target : Node) : Type 0 where
   pub tagged : at < 8 * length src
-  pub given-wide : (g : Bool) → (side_of g given).width ≤ given.width
-  pub target-wide : (g : Bool) → (side_of g target).width ≤ target.width
+  pub given_wide : (g : Bool) → (side_of g given).width ≤ given.width
+  pub target_wide : (g : Bool) → (side_of g target).width ≤ target.width
 
 -- The tag of the record at a bit, and the payloads under it.
 pub record TakenSide (src : List ℕ) (at : ℕ) (given target : Node) (s : Taken) : Type 0 where

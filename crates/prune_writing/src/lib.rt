@@ -6,7 +6,7 @@ ghost use Rattle.meaning.specs.Types.{bits};
 ghost use Rattle.meaning.specs.Tables.{table};
 ghost use Rattle.meaning.specs.Bits.{bits_of};
 ghost use Rattle.meaning.specs.Ladder.{record_of, type_at};
-ghost use Rattle.meaning.specs.CutCalls.{isCut, cutBits, cut_of};
+ghost use Rattle.meaning.specs.CutCalls.{is_cut, cut_bits, cut_of};
 ghost use Rattle.bits.specs.Runs.{Run};
 ghost use Rattle.checked.specs.Passed.{Named};
 
@@ -27,9 +27,9 @@ pub fn write(
     requires named { Named (table kinds.now lefts.now rights.now groups.now count) given }
     requires named_2 { Named (table kinds.now lefts.now rights.now groups.now count) target }
     requires run { Run src.now at (bits (type_at (table kinds.now lefts.now rights.now groups.now count) given)) }
-    requires target_value { isCut (cut_of (table kinds.now lefts.now rights.now groups.now count) (record_of src.now at given) target) ≡ true }
+    requires target_value { is_cut (cut_of (table kinds.now lefts.now rights.now groups.now count) (record_of src.now at given) target) ≡ true }
     requires run_2 { Run out.old to (bits (type_at (table kinds.now lefts.now rights.now groups.now count) target)) }
-    ensures { bits_of out.new ≡ paste (bits_of out.old) to (cutBits (cut_of (table kinds.now lefts.now rights.now groups.now count) (record_of src.now at given) target)) (bits (type_at (table kinds.now lefts.now rights.now groups.now count) target)) }
+    ensures { bits_of out.new ≡ paste (bits_of out.old) to (cut_bits (cut_of (table kinds.now lefts.now rights.now groups.now count) (record_of src.now at given) target)) (bits (type_at (table kinds.now lefts.now rights.now groups.now count) target)) }
 {
     let given_node = nodes::node_at(kinds, lefts, rights, groups, count, given);
     let target_node = nodes::node_at(kinds, lefts, rights, groups, count, target);

@@ -3,7 +3,7 @@
 ghost use Rattle.std.specs.Prelude.{◌≡◌, ◌<◌, get_or};
 ghost use Rattle.meaning.specs.Types.{bits, same};
 ghost use Rattle.meaning.specs.Tables.{table, ty_at, columns};
-ghost use Rattle.meaning.specs.Words.{wordWidths, isWord, asWord, two, segment, buffer, ctx8};
+ghost use Rattle.meaning.specs.Words.{word_widths, is_word, as_word, two, segment, buffer, ctx8};
 ghost use Rattle.meaning.specs.Checked.{Sound};
 
 use nodes::node_at;
@@ -21,7 +21,7 @@ pub const NO_WORD: usize = 32;
 // The width of word type n.
 pub fn word_width(n: usize) -> u64
     requires { n < 32 }
-    ensures { result ≡ get_or wordWidths n 0 }
+    ensures { result ≡ get_or word_widths n 0 }
 {
     WORD_WIDTHS[n]
 }
@@ -71,7 +71,7 @@ pub fn is_word(
 ) -> bool
     requires sound { Sound (table kinds.now lefts.now rights.now groups.now count) }
     requires node_lt_count { node < count }
-    ensures { result ≡ isWord n (ty_at (columns kinds.now lefts.now rights.now) node) }
+    ensures { result ≡ is_word n (ty_at (columns kinds.now lefts.now rights.now) node) }
 {
     let mut at = node;
     let mut below = n;
@@ -102,7 +102,7 @@ pub fn word_of(
 ) -> usize
     requires sound { Sound (table kinds.now lefts.now rights.now groups.now count) }
     requires node_lt_count { node < count }
-    ensures { result ≡ asWord (ty_at (columns kinds.now lefts.now rights.now) node) }
+    ensures { result ≡ as_word (ty_at (columns kinds.now lefts.now rights.now) node) }
 {
     let width = groups::width_at(groups, node);
     if u64::count_ones(width) != 1 {

@@ -3,14 +3,14 @@
 // is handed.
 ghost use Rattle.std.specs.Prelude.{◌≡◌};
 ghost use Rattle.meaning.specs.Tables.{table, columns};
-ghost use Rattle.meaning.specs.TypeCalls.{checkTableCall, fillFactsCall, fillFactsOut, readTableCall, readTableColumnsOut, readTableGroupsOut};
+ghost use Rattle.meaning.specs.TypeCalls.{check_table_call, fill_facts_call, fill_facts_out, read_table_call, read_table_columns_out, read_table_groups_out};
 ghost use Rattle.answers.specs.Verdicts.{done_of, count_of};
 
 use answers::{Count, Done};
 
 // The table is sound.
 pub fn check_table(kinds: &[u8], lefts: &[u16], rights: &[u16], groups: &[u8], count: usize) -> Done
-    ensures { done_of result ≡ checkTableCall
+    ensures { done_of result ≡ check_table_call
         (table kinds.now lefts.now rights.now groups.now count) }
 {
     checked_table::sound(kinds, lefts, rights, groups, count)
@@ -24,10 +24,10 @@ pub fn fill_facts(
     count: usize,
     groups: &mut [u8],
 ) -> Done
-    ensures result_value { done_of result ≡ fillFactsCall
+    ensures result_value { done_of result ≡ fill_facts_call
         (columns kinds.now lefts.now rights.now) count
         groups.old }
-    ensures groups_after { groups.new ≡ fillFactsOut
+    ensures groups_after { groups.new ≡ fill_facts_out
         (columns kinds.now lefts.now rights.now) count
         groups.old }
 {
@@ -47,19 +47,19 @@ pub fn read_table(
     rights: &mut [u16],
     groups: &mut [u8],
 ) -> Count
-    ensures result_value { count_of result ≡ readTableCall file.now
+    ensures result_value { count_of result ≡ read_table_call file.now
         (columns kinds.old lefts.old rights.old)
         groups.old }
-    ensures kinds_after { kinds.new ≡ (readTableColumnsOut file.now
+    ensures kinds_after { kinds.new ≡ (read_table_columns_out file.now
         (columns kinds.old lefts.old rights.old)
         groups.old).kinds }
-    ensures lefts_after { lefts.new ≡ (readTableColumnsOut file.now
+    ensures lefts_after { lefts.new ≡ (read_table_columns_out file.now
         (columns kinds.old lefts.old rights.old)
         groups.old).lefts }
-    ensures rights_after { rights.new ≡ (readTableColumnsOut file.now
+    ensures rights_after { rights.new ≡ (read_table_columns_out file.now
         (columns kinds.old lefts.old rights.old)
         groups.old).rights }
-    ensures groups_after { groups.new ≡ readTableGroupsOut file.now
+    ensures groups_after { groups.new ≡ read_table_groups_out file.now
         (columns kinds.old lefts.old rights.old)
         groups.old }
 {

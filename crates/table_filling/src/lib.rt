@@ -1,14 +1,14 @@
 // Whether facts can be filled in, judged before anything is written.
 ghost use Rattle.std.specs.Prelude.{◌≡◌};
 ghost use Rattle.meaning.specs.Tables.{columns};
-ghost use Rattle.meaning.specs.TypeCalls.{fillFactsCall};
+ghost use Rattle.meaning.specs.TypeCalls.{fill_facts_call};
 ghost use Rattle.answers.specs.Verdicts.{done_of};
 
 use answers::{Done, Refusal};
 
 // Whether facts can be filled in: the entries are right, and there is room.
 pub fn may_fill(kinds: &[u8], lefts: &[u16], rights: &[u16], count: usize, groups: &[u8]) -> Done
-    ensures { done_of result ≡ fillFactsCall
+    ensures { done_of result ≡ fill_facts_call
         (columns kinds.now lefts.now rights.now) count
         groups.now }
 {

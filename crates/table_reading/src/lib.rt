@@ -1,9 +1,9 @@
 // A table from its file: first the judgement, which writes nothing, and then what is written once it has passed.
 ghost use Rattle.std.specs.Prelude.{◌≡◌};
 ghost use Rattle.meaning.specs.Tables.{columns};
-ghost use Rattle.meaning.specs.Files.{tableIn};
+ghost use Rattle.meaning.specs.Files.{table_in};
 ghost use Rattle.meaning.specs.Ladder.{accepted};
-ghost use Rattle.meaning.specs.TypeCalls.{readTableCall, entriesIn, entriesWritten, groupsWritten};
+ghost use Rattle.meaning.specs.TypeCalls.{read_table_call, entries_in, entries_written, groups_written};
 ghost use Rattle.answers.specs.Verdicts.{count_of};
 
 use answers::{Count, Refusal};
@@ -11,7 +11,7 @@ use files::Judged;
 
 // Whether a table can be read: the file is sound, and there is room. The count of its nodes.
 pub fn may_read(file: &[u8], kinds: &[u8], lefts: &[u16], rights: &[u16], groups: &[u8]) -> Count
-    ensures { count_of result ≡ readTableCall file.now
+    ensures { count_of result ≡ read_table_call file.now
         (columns kinds.now lefts.now rights.now)
         groups.now }
 {
@@ -41,10 +41,10 @@ pub fn write_table(
     groups: &mut [u8],
     count: usize,
 )
-    requires { accepted count ≡ readTableCall file.now (columns kinds.old lefts.old rights.old) groups.old }
+    requires { accepted count ≡ read_table_call file.now (columns kinds.old lefts.old rights.old) groups.old }
     ensures rights_after { columns kinds.new lefts.new rights.new
-        ≡ entriesWritten (entriesIn (tableIn file.now)) (columns kinds.old lefts.old rights.old) }
-    ensures groups_after { groups.new ≡ groupsWritten
+        ≡ entries_written (entries_in (table_in file.now)) (columns kinds.old lefts.old rights.old) }
+    ensures groups_after { groups.new ≡ groups_written
         (columns kinds.new lefts.new rights.new) count
         groups.old }
 {

@@ -1,10 +1,10 @@
 // Whether lent columns and a lent buffer of groups have room for so many nodes.
 ghost use Rattle.std.specs.Prelude.{◌≡◌, ◌≤◌};
-ghost use Rattle.meaning.specs.Tables.{columns, columnsReach, groupsReach};
+ghost use Rattle.meaning.specs.Tables.{columns, columns_reach, groups_reach};
 
 // Each column of entries has as many as the count.
 pub fn columns_reach(kinds: &[u8], lefts: &[u16], rights: &[u16], count: usize) -> bool
-    ensures { result ≡ columnsReach (columns kinds.now lefts.now rights.now) count }
+    ensures { result ≡ columns_reach (columns kinds.now lefts.now rights.now) count }
 {
     if kinds.len() < count {
         return false;
@@ -18,7 +18,7 @@ pub fn columns_reach(kinds: &[u8], lefts: &[u16], rights: &[u16], count: usize) 
 // There is a group for each of so many nodes.
 pub fn groups_reach(groups: &[u8], count: usize) -> bool
     requires { count ≤ 1024 }
-    ensures { result ≡ groupsReach groups.now count }
+    ensures { result ≡ groups_reach groups.now count }
 {
     groups::GROUP_BYTES * count <= groups.len()
 }

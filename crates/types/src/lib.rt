@@ -2,7 +2,7 @@
 ghost use Rattle.std.specs.Prelude.{◌≡◌};
 ghost use Rattle.meaning.specs.Tables.{table};
 ghost use Rattle.meaning.specs.TypeCalls as calls;
-ghost use Rattle.answers.specs.Verdicts.{count_of, flagOf, sidesOf, facts_of};
+ghost use Rattle.answers.specs.Verdicts.{count_of, flag_of, sides_of, facts_of};
 
 use answers::{Count, Done, FactsAnswer, Flag, SidesAnswer};
 
@@ -15,7 +15,7 @@ pub fn facts_of(
     count: usize,
     node: usize,
 ) -> FactsAnswer
-    ensures { facts_of result ≡ calls.factsOfCall
+    ensures { facts_of result ≡ calls.facts_of_call
         (table kinds.now lefts.now rights.now groups.now count) node }
 {
     let judged = checked_present::one(kinds, lefts, rights, groups, count, node);
@@ -35,7 +35,7 @@ pub fn same_type(
     a: usize,
     b: usize,
 ) -> Flag
-    ensures { flagOf result ≡ calls.sameTypeCall
+    ensures { flag_of result ≡ calls.same_type_call
         (table kinds.now lefts.now rights.now groups.now count) a b }
 {
     let judged = checked_present::two(kinds, lefts, rights, groups, count, a, b);
@@ -54,7 +54,7 @@ pub fn is_unit(
     count: usize,
     node: usize,
 ) -> Flag
-    ensures { flagOf result ≡ calls.isUnitCall
+    ensures { flag_of result ≡ calls.is_unit_call
         (table kinds.now lefts.now rights.now groups.now count) node }
 {
     match facts_of(kinds, lefts, rights, groups, count, node) {
@@ -72,7 +72,7 @@ pub fn is_empty(
     count: usize,
     node: usize,
 ) -> Flag
-    ensures { flagOf result ≡ calls.isEmptyCall
+    ensures { flag_of result ≡ calls.is_empty_call
         (table kinds.now lefts.now rights.now groups.now count) node }
 {
     match facts_of(kinds, lefts, rights, groups, count, node) {
@@ -90,7 +90,7 @@ pub fn as_sum(
     count: usize,
     node: usize,
 ) -> SidesAnswer
-    ensures { sidesOf result ≡ calls.typeAsSumCall
+    ensures { sides_of result ≡ calls.type_as_sum_call
         (table kinds.now lefts.now rights.now groups.now count) node }
 {
     match facts_of(kinds, lefts, rights, groups, count, node) {
@@ -108,7 +108,7 @@ pub fn as_product(
     count: usize,
     node: usize,
 ) -> SidesAnswer
-    ensures { sidesOf result ≡ calls.typeAsProductCall
+    ensures { sides_of result ≡ calls.type_as_product_call
         (table kinds.now lefts.now rights.now groups.now count) node }
 {
     match facts_of(kinds, lefts, rights, groups, count, node) {
@@ -127,7 +127,7 @@ pub fn pad_left(
     a: usize,
     b: usize,
 ) -> Count
-    ensures { count_of result ≡ calls.padLeftCall
+    ensures { count_of result ≡ calls.pad_left_call
         (table kinds.now lefts.now rights.now groups.now count) a b }
 {
     let judged = checked_present::two(kinds, lefts, rights, groups, count, a, b);
@@ -147,7 +147,7 @@ pub fn pad_right(
     a: usize,
     b: usize,
 ) -> Count
-    ensures { count_of result ≡ calls.padRightCall
+    ensures { count_of result ≡ calls.pad_right_call
         (table kinds.now lefts.now rights.now groups.now count) a b }
 {
     pad_left(kinds, lefts, rights, groups, count, b, a)

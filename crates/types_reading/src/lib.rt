@@ -1,8 +1,8 @@
 // What the questions about types read once the table and the nodes have been judged.
 ghost use Rattle.std.specs.Prelude.{◌≡◌, ◌-◌, max, eqb};
-ghost use Rattle.meaning.specs.Tables.{table, columns, factsAt};
+ghost use Rattle.meaning.specs.Tables.{table, columns, facts_at};
 ghost use Rattle.meaning.specs.Ladder.{ladder, shaped};
-ghost use Rattle.answers.specs.Verdicts.{sidesOf, nodeFacts};
+ghost use Rattle.answers.specs.Verdicts.{sides_of, node_facts};
 ghost use Rattle.checked.specs.Passed.{Present};
 
 use answers::{Facts, Sides, SidesAnswer};
@@ -17,7 +17,7 @@ pub fn facts(
     node: usize,
 ) -> Facts
     requires { Present (table kinds.now lefts.now rights.now groups.now count) node }
-    ensures { nodeFacts result ≡ factsAt (columns kinds.now lefts.now rights.now) node }
+    ensures { node_facts result ≡ facts_at (columns kinds.now lefts.now rights.now) node }
 {
     Facts {
         width: groups::width_at(groups, node),
@@ -33,7 +33,7 @@ pub fn facts(
 
 // The sides of a node of a kind; any other node has the wrong shape.
 pub fn sides_if(facts: Facts, kind: u8) -> SidesAnswer
-    ensures { sidesOf result ≡ ladder (shaped (eqb facts.kind kind)) (record { leftNode = facts.left; rightNode = facts.right }) }
+    ensures { sides_of result ≡ ladder (shaped (eqb facts.kind kind)) (record { left_node = facts.left; right_node = facts.right }) }
 {
     if facts.kind != kind {
         return SidesAnswer::Refused(answers::WRONG_SHAPE);

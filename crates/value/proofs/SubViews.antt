@@ -4,9 +4,9 @@
 --   shown                       the record at a place in the bytes of another
 --   Shows                       it lies within them, is of this type, and has these bits
 --   ShowsBoth                   two places in a record's bytes hold the parts of a product
---   payload-shows parts-show    the place of a sum's payload shows it, over the tag; those of a product's parts show them
---   left-view right-view        so does an accepted `as_left`, and an accepted `as_right`
---   product-view                and an accepted `as_product`
+--   payload_shows parts_show    the place of a sum's payload shows it, over the tag; those of a product's parts show them
+--   left_view right_view        so does an accepted `as_left`, and an accepted `as_right`
+--   product_view                and an accepted `as_product`
 -- Assumes nothing.
 use Prim.Native.Nat.{ℕ, ◌+◌, ◌-◌, ◌≤◌}
 use mathlib.Core.Path.{◌≡◌, sym, ap, ◌∙◌, subst}
@@ -16,22 +16,22 @@ use native.Mathlib.Omega.{arith}
 use lib.Dec.{ltb}
 use lib.ListN.{take, drop}
 use borrow.Author.Tests.{not-false}
-use Rattle.meaning.specs.Types.{Ty, bits, top, isSum, isProd, leftSide, rightSide}
+use Rattle.meaning.specs.Types.{Ty, bits, top, is_sum, is_prod, left_side, right_side}
 use Rattle.meaning.specs.Tables.{Table, left, right, node}
 use Rattle.meaning.specs.Bits.{bits_of}
-use Rattle.meaning.specs.Records.{tag, left_of, rightOf, first_of, second_of}
-use Rattle.meaning.specs.Ladder.{accepted, ladder, Record, record_of, type_at, type_of, recordBits, shaped}
-use Rattle.meaning.specs.RecordCalls.{Spot, Spots, handed, asLeftCall, asRightCall, asProductCall}
-use Rattle.meaning.proofs.Ladders.{ladder-parts, ladder-clear}
+use Rattle.meaning.specs.Records.{tag, left_of, right_of, first_of, second_of}
+use Rattle.meaning.specs.Ladder.{accepted, ladder, Record, record_of, type_at, type_of, record_bits, shaped}
+use Rattle.meaning.specs.RecordCalls.{Spot, Spots, handed, as_left_call, as_right_call, as_product_call}
+use Rattle.meaning.proofs.Ladders.{ladder_parts, ladder_clear}
 use Rattle.meaning.proofs.Tests.{and_left}
-use Rattle.meaning.proofs.Records.{bits-prod}
+use Rattle.meaning.proofs.Records.{bits_prod}
 use Rattle.checked.specs.Passed.{Held}
-use Rattle.checked.proofs.Passed.{handed-passed}
-use Rattle.bits.proofs.Runs.{take-run, drop-run}
-use Rattle.checked.specs.Sides.{sideNode, sideType, padding, says}
-use Rattle.value_views.specs.Views.{payloadSpot, payloadRungs, partsSpots, partsRungs}
-use Rattle.checked.proofs.Nodes.{before-payload}
-use Rattle.checked.proofs.SideTypes.{sum-tree, prod-tree, prod-named, side-type-is, side-named}
+use Rattle.checked.proofs.Passed.{handed_passed}
+use Rattle.bits.proofs.Runs.{take_run, drop_run}
+use Rattle.checked.specs.Sides.{side_node, side_type, padding, says}
+use Rattle.value_views.specs.Views.{payload_spot, payload_rungs, parts_spots, parts_rungs}
+use Rattle.checked.proofs.Nodes.{before_payload}
+use Rattle.checked.proofs.SideTypes.{sum_tree, prod_tree, prod_named, side_type_is, side_named}
 
 -- The record at a place in the bytes of another.
 abbrev pub shown : Record → Spot → Record
@@ -40,105 +40,105 @@ shown r s = record_of r.bytes s.offset s.node
 -- It lies within its bytes, is of this type, and has these bits.
 pub record Shows (t : Table) (r : Record) (s : Spot) (x : Ty) (v : List Bool) : Type 0 where
   pub held : Held t (shown r s)
-  pub type-is : type_at t s.node ≡ x
-  pub bits_are : recordBits t (shown r s) ≡ v
+  pub type_is : type_at t s.node ≡ x
+  pub bits_are : record_bits t (shown r s) ≡ v
 
 -- ---- The payload of a sum, over the tag
 
-module _ (t : Table) (r : Record) (f : Held t r) (e : isSum (type_of t r) ≡ true) (g : Bool) where
+module _ (t : Table) (r : Record) (f : Held t r) (e : is_sum (type_of t r) ≡ true) (g : Bool) where
   -- The payload is what is left of the whole.
-  payload-width : bits (type_of t r) ≡ 1 + padding g (type_of t r) + bits (type_at t (sideNode g t.columns r.node))
-  payload-width =
-      let x = sum-tree t r.node f.named e in
-      let y : bits (type_at t (sideNode g t.columns r.node)) ≡ bits (sideType g (type_of t r)) =
-      ap bits (side-type-is t r.node f.named e g) in
+  payload_width : bits (type_of t r) ≡ 1 + padding g (type_of t r) + bits (type_at t (side_node g t.columns r.node))
+  payload_width =
+      let x = sum_tree t r.node f.named e in
+      let y : bits (type_at t (side_node g t.columns r.node)) ≡ bits (side_type g (type_of t r)) =
+      ap bits (side_type_is t r.node f.named e g) in
       omega (
         arith,
-        before-payload g (type_of t r) (type_at t (left t.columns r.node)) (type_at t (right t.columns r.node)) x,
+        before_payload g (type_of t r) (type_at t (left t.columns r.node)) (type_at t (right t.columns r.node)) x,
       )
 
-  pub payload-shows : Shows t r (payloadSpot g t r) (sideType g (type_of t r)) (drop (1 + padding g (type_of t r)) (recordBits t r))
-  unfolding recordBits
-  payload-shows =
+  pub payload_shows : Shows t r (payload_spot g t r) (side_type g (type_of t r)) (drop (1 + padding g (type_of t r)) (record_bits t r))
+  unfolding record_bits
+  payload_shows =
       let k = 1 + padding g (type_of t r) in
-      let w : bits (type_at t (sideNode g t.columns r.node)) ≡ bits (type_of t r) - k = omega (arith, payload-width) in
+      let w : bits (type_at t (side_node g t.columns r.node)) ≡ bits (type_of t r) - k = omega (arith, payload_width) in
       record {
-        held = record { named = side-named t r.node f.named e g; ends = omega (arith, payload-width, f.ends) };
-        type-is = side-type-is t r.node f.named e g;
+        held = record { named = side_named t r.node f.named e g; ends = omega (arith, payload_width, f.ends) };
+        type_is = side_type_is t r.node f.named e g;
         bits_are =
             ap (λ (n : ℕ). take n (drop (r.offset + k) (bits_of r.bytes))) w
-            ∙ sym (drop-run (bits_of r.bytes) r.offset (bits (type_of t r)) k);
+            ∙ sym (drop_run (bits_of r.bytes) r.offset (bits (type_of t r)) k);
       }
 
 -- A view that was accepted has passed every rung, and its place is the payload's.
-payload-view : (g : Bool) (t : Table) (r : Record) (s : Spot)
-    → ladder (handed t (r ∷ []) [] ++ payloadRungs g t r) (payloadSpot g t r) ≡ accepted s
-    → Shows t r s (sideType g (type_of t r)) (drop (1 + padding g (type_of t r)) (recordBits t r))
+payload_view : (g : Bool) (t : Table) (r : Record) (s : Spot)
+    → ladder (handed t (r ∷ []) [] ++ payload_rungs g t r) (payload_spot g t r) ≡ accepted s
+    → Shows t r s (side_type g (type_of t r)) (drop (1 + padding g (type_of t r)) (record_bits t r))
 unfolding ladder
-payload-view g t r s h =
-    let x = payloadSpot g t r in
-    let fits = isSum (type_of t r) && says g (tag (recordBits t r)) in
-    let p = ladder-parts (handed t (r ∷ []) []) (payloadRungs g t r) (tt {0}) x s h in
-    let q = ladder-clear (ltb top (r.offset + bits (type_of t r))) 5 0 (shaped fits) x s p.1 in
-    let z = ladder-clear (not fits) 7 0 [] x s q.1 in
+payload_view g t r s h =
+    let x = payload_spot g t r in
+    let fits = is_sum (type_of t r) && says g (tag (record_bits t r)) in
+    let p = ladder_parts (handed t (r ∷ []) []) (payload_rungs g t r) (tt {0}) x s h in
+    let q = ladder_clear (ltb top (r.offset + bits (type_of t r))) 5 0 (shaped fits) x s p.1 in
+    let z = ladder_clear (not fits) 7 0 [] x s q.1 in
     let place : accepted x ≡ accepted s = z.1 in
     let same_place : x ≡ s = cc in
-    subst (λ (y : Spot). Shows t r y (sideType g (type_of t r)) (drop (1 + padding g (type_of t r)) (recordBits t r))) same_place
-    (payload-shows t r (handed-passed t (r ∷ []) [] p.0).0.0
-    (and_left (isSum (type_of t r)) (says g (tag (recordBits t r))) (not-false fits z.0)) g)
+    subst (λ (y : Spot). Shows t r y (side_type g (type_of t r)) (drop (1 + padding g (type_of t r)) (record_bits t r))) same_place
+    (payload_shows t r (handed_passed t (r ∷ []) [] p.0).0.0
+    (and_left (is_sum (type_of t r)) (says g (tag (record_bits t r))) (not-false fits z.0)) g)
 
-pub left-view : (t : Table) (r : Record) (s : Spot) → asLeftCall t r ≡ accepted s
-    → Shows t r s (leftSide (type_of t r)) (left_of (leftSide (type_of t r)) (rightSide (type_of t r)) (recordBits t r))
-left-view = payload-view false
+pub left_view : (t : Table) (r : Record) (s : Spot) → as_left_call t r ≡ accepted s
+    → Shows t r s (left_side (type_of t r)) (left_of (left_side (type_of t r)) (right_side (type_of t r)) (record_bits t r))
+left_view = payload_view false
 
-pub right-view : (t : Table) (r : Record) (s : Spot) → asRightCall t r ≡ accepted s
-    → Shows t r s (rightSide (type_of t r)) (rightOf (leftSide (type_of t r)) (rightSide (type_of t r)) (recordBits t r))
-right-view = payload-view true
+pub right_view : (t : Table) (r : Record) (s : Spot) → as_right_call t r ≡ accepted s
+    → Shows t r s (right_side (type_of t r)) (right_of (left_side (type_of t r)) (right_side (type_of t r)) (record_bits t r))
+right_view = payload_view true
 
 -- ---- The parts of a product
 
 -- Two places in a record's bytes hold the parts of a product.
 pub record ShowsBoth (t : Table) (r : Record) (s : Spots) : Type 0 where
-  pub left-part : Shows t r s.first (leftSide (type_of t r)) (first_of (leftSide (type_of t r)) (recordBits t r))
-  pub right-part : Shows t r s.second (rightSide (type_of t r)) (second_of (leftSide (type_of t r)) (recordBits t r))
+  pub left_part : Shows t r s.first (left_side (type_of t r)) (first_of (left_side (type_of t r)) (record_bits t r))
+  pub right_part : Shows t r s.second (right_side (type_of t r)) (second_of (left_side (type_of t r)) (record_bits t r))
 
-pub parts-show : (t : Table) (r : Record) → Held t r → isProd (type_of t r) ≡ true → ShowsBoth t r (partsSpots t r)
-unfolding recordBits
-parts-show t r f e =
+pub parts_show : (t : Table) (r : Record) → Held t r → is_prod (type_of t r) ≡ true → ShowsBoth t r (parts_spots t r)
+unfolding record_bits
+parts_show t r f e =
     let a = type_at t (left t.columns r.node) in
     let b = type_at t (right t.columns r.node) in
-    let x = prod-tree t r.node f.named e in
-    let w : bits (type_of t r) ≡ bits a + bits b = ap bits x ∙ bits-prod a b in
-    let l : bits (leftSide (type_of t r)) ≡ bits a = ap (λ (y : Ty). bits (leftSide y)) x in
-    let m : bits b ≡ bits (type_of t r) - bits (leftSide (type_of t r)) = omega arith in
-    let both = prod-named t r.node f.named e in
-    let short : bits (leftSide (type_of t r)) ≤ bits (type_of t r) = omega arith in
+    let x = prod_tree t r.node f.named e in
+    let w : bits (type_of t r) ≡ bits a + bits b = ap bits x ∙ bits_prod a b in
+    let l : bits (left_side (type_of t r)) ≡ bits a = ap (λ (y : Ty). bits (left_side y)) x in
+    let m : bits b ≡ bits (type_of t r) - bits (left_side (type_of t r)) = omega arith in
+    let both = prod_named t r.node f.named e in
+    let short : bits (left_side (type_of t r)) ≤ bits (type_of t r) = omega arith in
     record {
-      left-part =
+      left_part =
           record {
             held = record { named = both.0; ends = omega (arith, f.ends) };
-            type-is = sym (ap leftSide x);
+            type_is = sym (ap left_side x);
             bits_are =
                 ap (λ (n : ℕ). take n (drop r.offset (bits_of r.bytes))) (sym l)
-                ∙ sym (take-run (bits_of r.bytes) r.offset (bits (type_of t r)) (bits (leftSide (type_of t r))) short);
+                ∙ sym (take_run (bits_of r.bytes) r.offset (bits (type_of t r)) (bits (left_side (type_of t r))) short);
           };
-      right-part =
+      right_part =
           record {
             held = record { named = both.1; ends = omega (arith, f.ends) };
-            type-is = sym (ap rightSide x);
+            type_is = sym (ap right_side x);
             bits_are =
-                ap (λ (n : ℕ). take n (drop (r.offset + bits (leftSide (type_of t r))) (bits_of r.bytes))) m
-                ∙ sym (drop-run (bits_of r.bytes) r.offset (bits (type_of t r)) (bits (leftSide (type_of t r))));
+                ap (λ (n : ℕ). take n (drop (r.offset + bits (left_side (type_of t r))) (bits_of r.bytes))) m
+                ∙ sym (drop_run (bits_of r.bytes) r.offset (bits (type_of t r)) (bits (left_side (type_of t r))));
           };
     }
 
-pub product-view : (t : Table) (r : Record) (s : Spots) → asProductCall t r ≡ accepted s → ShowsBoth t r s
+pub product_view : (t : Table) (r : Record) (s : Spots) → as_product_call t r ≡ accepted s → ShowsBoth t r s
 unfolding ladder
-product-view t r s h =
-    let x = partsSpots t r in
-    let p = ladder-parts (handed t (r ∷ []) []) (partsRungs t r) (tt {0}) x s h in
-    let q = ladder-clear (ltb top (r.offset + bits (type_of t r))) 5 0 (shaped (isProd (type_of t r))) x s p.1 in
-    let z = ladder-clear (not (isProd (type_of t r))) 7 0 [] x s q.1 in
+product_view t r s h =
+    let x = parts_spots t r in
+    let p = ladder_parts (handed t (r ∷ []) []) (parts_rungs t r) (tt {0}) x s h in
+    let q = ladder_clear (ltb top (r.offset + bits (type_of t r))) 5 0 (shaped (is_prod (type_of t r))) x s p.1 in
+    let z = ladder_clear (not (is_prod (type_of t r))) 7 0 [] x s q.1 in
     let place : accepted x ≡ accepted s = z.1 in
     let same_place : x ≡ s = cc in
-    subst (λ (y : Spots). ShowsBoth t r y) same_place (parts-show t r (handed-passed t (r ∷ []) [] p.0).0.0 (not-false (isProd (type_of t r)) z.0))
+    subst (λ (y : Spots). ShowsBoth t r y) same_place (parts_show t r (handed_passed t (r ∷ []) [] p.0).0.0 (not-false (is_prod (type_of t r)) z.0))

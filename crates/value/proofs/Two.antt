@@ -1,6 +1,6 @@
 -- Two records together, and the first five rungs.
 --
---   two-pass two-held       the rungs pass exactly if they do for each of the two
+--   two_pass two_held       the rungs pass exactly if they do for each of the two
 --   swapped                 in either order
 -- Assumes nothing.
 use Prim.Native.Nat.{◌+◌, ◌*◌}
@@ -13,10 +13,10 @@ use Rattle.meaning.specs.Types.{bits, size}
 use Rattle.meaning.specs.Tables.{Table}
 use Rattle.meaning.specs.Ladder.{accepted, Rung, rung, ladder, Record, type_of, sound}
 use Rattle.meaning.specs.RecordCalls.{handed}
-use Rattle.meaning.proofs.Ladders.{ladder-parts}
+use Rattle.meaning.proofs.Ladders.{ladder_parts}
 use Rattle.checked.specs.Passed.{Held}
-use Rattle.checked.proofs.Passed.{handed-passed}
-use Rattle.checked.proofs.Passes.{handed-accepts}
+use Rattle.checked.proofs.Passed.{handed_passed}
+use Rattle.checked.proofs.Passes.{handed_accepts}
 
 -- The same test of two, in either order.
 swap : (x y : Bool) → (x || (y || false)) ≡ (y || (x || false))
@@ -26,14 +26,14 @@ swap false true = refl
 swap false false = refl
 
 module _ {A : Type 0} (t : Table) (a b : Record) (v : A) where
-  pub two-pass : Held t a → Held t b → ladder (handed t (a ∷ b ∷ []) []) v ≡ accepted v
-  two-pass f g = handed-accepts t f.named.sound (a ∷ b ∷ []) [] v (f, (g, tt)) tt
+  pub two_pass : Held t a → Held t b → ladder (handed t (a ∷ b ∷ []) []) v ≡ accepted v
+  two_pass f g = handed_accepts t f.named.sound (a ∷ b ∷ []) [] v (f, (g, tt)) tt
 
-  pub two-held : (x : A) → ladder (handed t (a ∷ b ∷ []) []) v ≡ accepted x → Held t a × Held t b × (v ≡ x)
+  pub two_held : (x : A) → ladder (handed t (a ∷ b ∷ []) []) v ≡ accepted x → Held t a × Held t b × (v ≡ x)
   unfolding ladder
-  two-held x h =
-      let q = ladder-parts (handed t (a ∷ b ∷ []) []) [] (tt {0}) v x h in
-      let p = handed-passed t (a ∷ b ∷ []) [] q.0 in
+  two_held x h =
+      let q = ladder_parts (handed t (a ∷ b ∷ []) []) [] (tt {0}) v x h in
+      let p = handed_passed t (a ∷ b ∷ []) [] q.0 in
       let e : accepted v ≡ accepted x = q.1 in
       (p.0.0, p.0.1.0, cc)
 

@@ -4,7 +4,7 @@ ghost use Rattle.std.specs.Prelude.{◌≡◌};
 ghost use Rattle.meaning.specs.Tables.{table};
 ghost use Rattle.meaning.specs.Ladder.{record_of};
 ghost use Rattle.meaning.specs.RecordCalls as calls;
-ghost use Rattle.answers.specs.Verdicts.{flagOf, order_of};
+ghost use Rattle.answers.specs.Verdicts.{flag_of, order_of};
 
 use answers::{Done, Flag, OrderAnswer};
 use value_comparing::{alike, ordered};
@@ -23,7 +23,7 @@ pub fn equal(
     b_offset: usize,
     b_node: usize,
 ) -> Flag
-    ensures { flagOf result ≡ calls.equalCall (table kinds.now lefts.now rights.now groups.now count) (record_of a_bytes.now a_offset a_node) (record_of b_bytes.now b_offset b_node) }
+    ensures { flag_of result ≡ calls.equal_call (table kinds.now lefts.now rights.now groups.now count) (record_of a_bytes.now a_offset a_node) (record_of b_bytes.now b_offset b_node) }
 {
     let judged = checked_rungs::two(
         kinds, lefts, rights, groups, count, a_bytes, a_offset, a_node, b_bytes, b_offset, b_node,
@@ -50,7 +50,7 @@ pub fn compare(
     b_offset: usize,
     b_node: usize,
 ) -> OrderAnswer
-    ensures { order_of result ≡ calls.compareCall (table kinds.now lefts.now rights.now groups.now count) (record_of a_bytes.now a_offset a_node) (record_of b_bytes.now b_offset b_node) }
+    ensures { order_of result ≡ calls.compare_call (table kinds.now lefts.now rights.now groups.now count) (record_of a_bytes.now a_offset a_node) (record_of b_bytes.now b_offset b_node) }
 {
     let judged = checked_rungs::two(
         kinds, lefts, rights, groups, count, a_bytes, a_offset, a_node, b_bytes, b_offset, b_node,

@@ -5,10 +5,10 @@
 ghost use Rattle.std.specs.Prelude.{◌≡◌};
 ghost use Rattle.meaning.specs.Tables.{table};
 ghost use Rattle.meaning.specs.Ladder.{record_of};
-ghost use Rattle.meaning.specs.RecordCalls.{unitCall, unitOut, zeroCall, zeroOut, leftCall, leftOut, rightCall, rightOut, productCall, productOut};
-ghost use Rattle.meaning.specs.RecordCalls.{noneCall, noneOut, someCall, someOut};
+ghost use Rattle.meaning.specs.RecordCalls.{unit_call, unit_out, zero_call, zero_out, left_call, left_out, right_call, right_out, product_call, product_out};
+ghost use Rattle.meaning.specs.RecordCalls.{none_call, none_out, some_call, some_out};
 ghost use Rattle.answers.specs.Verdicts.{count_of};
-ghost use Rattle.value.specs.Sides.{sideCall, sideOut};
+ghost use Rattle.value.specs.Sides.{side_call, side_out};
 
 use answers::{Count, Done};
 use value_fitting::optional;
@@ -24,8 +24,8 @@ pub fn unit(
     res: usize,
     out: &mut [u8],
 ) -> Count
-    ensures result_value { count_of result ≡ unitCall (table kinds.now lefts.now rights.now groups.now count) res out.old }
-    ensures out_after { out.new ≡ unitOut (table kinds.now lefts.now rights.now groups.now count) res out.old }
+    ensures result_value { count_of result ≡ unit_call (table kinds.now lefts.now rights.now groups.now count) res out.old }
+    ensures out_after { out.new ≡ unit_out (table kinds.now lefts.now rights.now groups.now count) res out.old }
 {
     let judged = checked_rungs::result(kinds, lefts, rights, groups, count, res);
     if let Done::Refused(r) = judged {
@@ -48,8 +48,8 @@ pub fn zero(
     res: usize,
     out: &mut [u8],
 ) -> Count
-    ensures result_value { count_of result ≡ zeroCall (table kinds.now lefts.now rights.now groups.now count) res out.old }
-    ensures out_after { out.new ≡ zeroOut (table kinds.now lefts.now rights.now groups.now count) res out.old }
+    ensures result_value { count_of result ≡ zero_call (table kinds.now lefts.now rights.now groups.now count) res out.old }
+    ensures out_after { out.new ≡ zero_out (table kinds.now lefts.now rights.now groups.now count) res out.old }
 {
     let judged = checked_rungs::result(kinds, lefts, rights, groups, count, res);
     if let Done::Refused(r) = judged {
@@ -72,8 +72,8 @@ fn one_side(
     right: bool,
     out: &mut [u8],
 ) -> Count
-    ensures result_value { count_of result ≡ sideCall right (table kinds.now lefts.now rights.now groups.now count) (record_of bytes.now offset node) res out.old }
-    ensures out_after { out.new ≡ sideOut right (table kinds.now lefts.now rights.now groups.now count) (record_of bytes.now offset node) res out.old }
+    ensures result_value { count_of result ≡ side_call right (table kinds.now lefts.now rights.now groups.now count) (record_of bytes.now offset node) res out.old }
+    ensures out_after { out.new ≡ side_out right (table kinds.now lefts.now rights.now groups.now count) (record_of bytes.now offset node) res out.old }
 {
     let judged = checked_rungs::record_to(
         kinds, lefts, rights, groups, count, bytes, offset, node, res,
@@ -99,8 +99,8 @@ pub fn left(
     res: usize,
     out: &mut [u8],
 ) -> Count
-    ensures result_value { count_of result ≡ leftCall (table kinds.now lefts.now rights.now groups.now count) (record_of bytes.now offset node) res out.old }
-    ensures out_after { out.new ≡ leftOut (table kinds.now lefts.now rights.now groups.now count) (record_of bytes.now offset node) res out.old }
+    ensures result_value { count_of result ≡ left_call (table kinds.now lefts.now rights.now groups.now count) (record_of bytes.now offset node) res out.old }
+    ensures out_after { out.new ≡ left_out (table kinds.now lefts.now rights.now groups.now count) (record_of bytes.now offset node) res out.old }
 {
     one_side(
         kinds, lefts, rights, groups, count, bytes, offset, node, res, false, out,
@@ -120,8 +120,8 @@ pub fn right(
     res: usize,
     out: &mut [u8],
 ) -> Count
-    ensures result_value { count_of result ≡ rightCall (table kinds.now lefts.now rights.now groups.now count) (record_of bytes.now offset node) res out.old }
-    ensures out_after { out.new ≡ rightOut (table kinds.now lefts.now rights.now groups.now count) (record_of bytes.now offset node) res out.old }
+    ensures result_value { count_of result ≡ right_call (table kinds.now lefts.now rights.now groups.now count) (record_of bytes.now offset node) res out.old }
+    ensures out_after { out.new ≡ right_out (table kinds.now lefts.now rights.now groups.now count) (record_of bytes.now offset node) res out.old }
 {
     one_side(
         kinds, lefts, rights, groups, count, bytes, offset, node, res, true, out,
@@ -144,8 +144,8 @@ pub fn product(
     res: usize,
     out: &mut [u8],
 ) -> Count
-    ensures result_value { count_of result ≡ productCall (table kinds.now lefts.now rights.now groups.now count) (record_of a_bytes.now a_offset a_node) (record_of b_bytes.now b_offset b_node) res out.old }
-    ensures out_after { out.new ≡ productOut (table kinds.now lefts.now rights.now groups.now count) (record_of a_bytes.now a_offset a_node) (record_of b_bytes.now b_offset b_node) res out.old }
+    ensures result_value { count_of result ≡ product_call (table kinds.now lefts.now rights.now groups.now count) (record_of a_bytes.now a_offset a_node) (record_of b_bytes.now b_offset b_node) res out.old }
+    ensures out_after { out.new ≡ product_out (table kinds.now lefts.now rights.now groups.now count) (record_of a_bytes.now a_offset a_node) (record_of b_bytes.now b_offset b_node) res out.old }
 {
     let judged = checked_rungs::two_to(
         kinds, lefts, rights, groups, count, a_bytes, a_offset, a_node, b_bytes, b_offset, b_node,
@@ -170,8 +170,8 @@ pub fn none(
     res: usize,
     out: &mut [u8],
 ) -> Count
-    ensures result_value { count_of result ≡ noneCall (table kinds.now lefts.now rights.now groups.now count) res out.old }
-    ensures out_after { out.new ≡ noneOut (table kinds.now lefts.now rights.now groups.now count) res out.old }
+    ensures result_value { count_of result ≡ none_call (table kinds.now lefts.now rights.now groups.now count) res out.old }
+    ensures out_after { out.new ≡ none_out (table kinds.now lefts.now rights.now groups.now count) res out.old }
 {
     let judged = checked_rungs::result(kinds, lefts, rights, groups, count, res);
     if let Done::Refused(r) = judged {
@@ -196,8 +196,8 @@ pub fn some(
     res: usize,
     out: &mut [u8],
 ) -> Count
-    ensures result_value { count_of result ≡ someCall (table kinds.now lefts.now rights.now groups.now count) (record_of bytes.now offset node) res out.old }
-    ensures out_after { out.new ≡ someOut (table kinds.now lefts.now rights.now groups.now count) (record_of bytes.now offset node) res out.old }
+    ensures result_value { count_of result ≡ some_call (table kinds.now lefts.now rights.now groups.now count) (record_of bytes.now offset node) res out.old }
+    ensures out_after { out.new ≡ some_out (table kinds.now lefts.now rights.now groups.now count) (record_of bytes.now offset node) res out.old }
 {
     let judged = checked_rungs::record_to(
         kinds, lefts, rights, groups, count, bytes, offset, node, res,

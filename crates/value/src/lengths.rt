@@ -19,7 +19,7 @@ pub fn padded_len(
     offset: usize,
     node: usize,
 ) -> Count
-    ensures { count_of result ≡ calls.paddedLenCall (table kinds.now lefts.now rights.now groups.now count) (record_of bytes.now offset node) }
+    ensures { count_of result ≡ calls.padded_len_call (table kinds.now lefts.now rights.now groups.now count) (record_of bytes.now offset node) }
 {
     let judged = checked_rungs::record(kinds, lefts, rights, groups, count, bytes, offset, node);
     if let Done::Refused(r) = judged {

@@ -3,8 +3,8 @@
 ghost use Rattle.std.specs.Prelude.{◌≡◌};
 ghost use Rattle.meaning.specs.Tables.{table};
 ghost use Rattle.meaning.specs.Ladder.{record_of};
-ghost use Rattle.meaning.specs.RecordCalls.{asLeftCall, asRightCall, asProductCall};
-ghost use Rattle.answers.specs.Verdicts.{spot_of, spotsOf};
+ghost use Rattle.meaning.specs.RecordCalls.{as_left_call, as_right_call, as_product_call};
+ghost use Rattle.answers.specs.Verdicts.{spot_of, spots_of};
 
 use answers::{Done, SpotAnswer, SpotsAnswer};
 use value_views::{parts, payload};
@@ -20,7 +20,7 @@ pub fn as_left(
     offset: usize,
     node: usize,
 ) -> SpotAnswer
-    ensures { spot_of result ≡ asLeftCall (table kinds.now lefts.now rights.now groups.now count) (record_of bytes.now offset node) }
+    ensures { spot_of result ≡ as_left_call (table kinds.now lefts.now rights.now groups.now count) (record_of bytes.now offset node) }
 {
     let judged = checked_rungs::record(kinds, lefts, rights, groups, count, bytes, offset, node);
     if let Done::Refused(r) = judged {
@@ -42,7 +42,7 @@ pub fn as_right(
     offset: usize,
     node: usize,
 ) -> SpotAnswer
-    ensures { spot_of result ≡ asRightCall (table kinds.now lefts.now rights.now groups.now count) (record_of bytes.now offset node) }
+    ensures { spot_of result ≡ as_right_call (table kinds.now lefts.now rights.now groups.now count) (record_of bytes.now offset node) }
 {
     let judged = checked_rungs::record(kinds, lefts, rights, groups, count, bytes, offset, node);
     if let Done::Refused(r) = judged {
@@ -64,7 +64,7 @@ pub fn as_product(
     offset: usize,
     node: usize,
 ) -> SpotsAnswer
-    ensures { spotsOf result ≡ asProductCall (table kinds.now lefts.now rights.now groups.now count) (record_of bytes.now offset node) }
+    ensures { spots_of result ≡ as_product_call (table kinds.now lefts.now rights.now groups.now count) (record_of bytes.now offset node) }
 {
     let judged = checked_rungs::record(kinds, lefts, rights, groups, count, bytes, offset, node);
     if let Done::Refused(r) = judged {

@@ -1,19 +1,19 @@
 -- Equality and order of two records, after the rungs that all calls on records share.
 --
---   alikeAt        the same type and the same bits
---   orderedAt      the order
+--   alike_at       the same type and the same bits
+--   ordered_at     the order
 use Prim.Native.Nat.{Ordering}
 use Rattle.std.specs.Prelude.{Bool, ◌&&◌}
 use Rattle.meaning.specs.Types.{same}
 use Rattle.meaning.specs.Tables.{Table}
-use Rattle.meaning.specs.Records.{sameBits, orderBits}
-use Rattle.meaning.specs.Ladder.{Record, type_of, recordBits}
-use Rattle.meaning.specs.RecordCalls.{orderThen, orderTypes}
+use Rattle.meaning.specs.Records.{same_bits, order_bits}
+use Rattle.meaning.specs.Ladder.{Record, type_of, record_bits}
+use Rattle.meaning.specs.RecordCalls.{order_then, order_types}
 
 -- Two records have the same type and the same bits.
-abbrev pub alikeAt : Table → Record → Record → Bool
-alikeAt t a b = same (type_of t a) (type_of t b) && sameBits (recordBits t a) (recordBits t b)
+abbrev pub alike_at : Table → Record → Record → Bool
+alike_at t a b = same (type_of t a) (type_of t b) && same_bits (record_bits t a) (record_bits t b)
 
 -- The order of two records.
-abbrev pub orderedAt : Table → Record → Record → Ordering
-orderedAt t a b = orderThen (orderTypes t a.node b.node) (orderBits (recordBits t a) (recordBits t b))
+abbrev pub ordered_at : Table → Record → Record → Ordering
+ordered_at t a b = order_then (order_types t a.node b.node) (order_bits (record_bits t a) (record_bits t b))

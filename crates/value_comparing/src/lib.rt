@@ -5,7 +5,7 @@ ghost use Rattle.meaning.specs.Tables.{table};
 ghost use Rattle.meaning.specs.Ladder.{record_of};
 ghost use Rattle.answers.specs.Verdicts.{order};
 ghost use Rattle.checked.specs.Passed.{Held};
-ghost use Rattle.value_comparing.specs.Comparing.{alikeAt, orderedAt};
+ghost use Rattle.value_comparing.specs.Comparing.{alike_at, ordered_at};
 
 use answers::Order;
 
@@ -25,7 +25,7 @@ pub fn alike(
 ) -> bool
     requires held { Held (table kinds.now lefts.now rights.now groups.now count) (record_of a_bytes.now a_offset a_node) }
     requires held_2 { Held (table kinds.now lefts.now rights.now groups.now count) (record_of b_bytes.now b_offset b_node) }
-    ensures { result ≡ alikeAt (table kinds.now lefts.now rights.now groups.now count) (record_of a_bytes.now a_offset a_node) (record_of b_bytes.now b_offset b_node) }
+    ensures { result ≡ alike_at (table kinds.now lefts.now rights.now groups.now count) (record_of a_bytes.now a_offset a_node) (record_of b_bytes.now b_offset b_node) }
 {
     let a = nodes::node_at(kinds, lefts, rights, groups, count, a_node);
     let b = nodes::node_at(kinds, lefts, rights, groups, count, b_node);
@@ -59,7 +59,7 @@ pub fn ordered(
 ) -> Order
     requires held { Held (table kinds.now lefts.now rights.now groups.now count) (record_of a_bytes.now a_offset a_node) }
     requires held_2 { Held (table kinds.now lefts.now rights.now groups.now count) (record_of b_bytes.now b_offset b_node) }
-    ensures { order result ≡ orderedAt (table kinds.now lefts.now rights.now groups.now count) (record_of a_bytes.now a_offset a_node) (record_of b_bytes.now b_offset b_node) }
+    ensures { order result ≡ ordered_at (table kinds.now lefts.now rights.now groups.now count) (record_of a_bytes.now a_offset a_node) (record_of b_bytes.now b_offset b_node) }
 {
     let a = nodes::node_at(kinds, lefts, rights, groups, count, a_node);
     let b = nodes::node_at(kinds, lefts, rights, groups, count, b_node);

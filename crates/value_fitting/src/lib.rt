@@ -3,7 +3,7 @@
 ghost use Rattle.std.specs.Prelude.{◌≡◌};
 ghost use Rattle.meaning.specs.Tables.{table};
 ghost use Rattle.checked.specs.Passed.{Named};
-ghost use Rattle.value_fitting.specs.Fits.{optionFits, wrapFits, joinFits};
+ghost use Rattle.value_fitting.specs.Fits.{option_fits, wrap_fits, join_fits};
 
 // A sum with a unit left side.
 pub fn optional(
@@ -15,7 +15,7 @@ pub fn optional(
     res: usize,
 ) -> bool
     requires { Named (table kinds.now lefts.now rights.now groups.now count) res }
-    ensures { result ≡ optionFits (table kinds.now lefts.now rights.now groups.now count) res }
+    ensures { result ≡ option_fits (table kinds.now lefts.now rights.now groups.now count) res }
 {
     let whole = nodes::node_at(kinds, lefts, rights, groups, count, res);
     if whole.kind != 1 {
@@ -38,7 +38,7 @@ pub fn wraps(
 ) -> bool
     requires named { Named (table kinds.now lefts.now rights.now groups.now count) node }
     requires named_2 { Named (table kinds.now lefts.now rights.now groups.now count) res }
-    ensures { result ≡ wrapFits right (table kinds.now lefts.now rights.now groups.now count) node res }
+    ensures { result ≡ wrap_fits right (table kinds.now lefts.now rights.now groups.now count) node res }
 {
     let whole = nodes::node_at(kinds, lefts, rights, groups, count, res);
     if whole.kind != 1 {
@@ -62,7 +62,7 @@ pub fn joins(
     requires named { Named (table kinds.now lefts.now rights.now groups.now count) a }
     requires named_2 { Named (table kinds.now lefts.now rights.now groups.now count) b }
     requires named_3 { Named (table kinds.now lefts.now rights.now groups.now count) res }
-    ensures { result ≡ joinFits (table kinds.now lefts.now rights.now groups.now count) a b res }
+    ensures { result ≡ join_fits (table kinds.now lefts.now rights.now groups.now count) a b res }
 {
     let whole = nodes::node_at(kinds, lefts, rights, groups, count, res);
     if whole.kind != 2 {

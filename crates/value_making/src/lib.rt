@@ -3,11 +3,11 @@
 ghost use Rattle.std.specs.Prelude.{◌≡◌, []};
 ghost use Rattle.meaning.specs.Tables.{table};
 ghost use Rattle.meaning.specs.Ladder.{record_of, shaped, makes, made};
-ghost use Rattle.meaning.specs.RecordCalls.{zeroBits, productBits};
+ghost use Rattle.meaning.specs.RecordCalls.{zero_bits, product_bits};
 ghost use Rattle.answers.specs.Verdicts.{count_of};
 ghost use Rattle.checked.specs.Passed.{Named, Held};
-ghost use Rattle.value_fitting.specs.Fits.{wrapFits, joinFits};
-ghost use Rattle.value_making.specs.Wraps.{wrapBits};
+ghost use Rattle.value_fitting.specs.Fits.{wrap_fits, join_fits};
+ghost use Rattle.value_making.specs.Wraps.{wrap_bits};
 
 use answers::Count;
 
@@ -22,8 +22,8 @@ pub fn blank(
     out: &mut [u8],
 ) -> Count
     requires { Named (table kinds.now lefts.now rights.now groups.now count) res }
-    ensures result_value { count_of result ≡ makes [] (zeroBits (table kinds.now lefts.now rights.now groups.now count) res) out.old }
-    ensures out_after { out.new ≡ made [] (zeroBits (table kinds.now lefts.now rights.now groups.now count) res) out.old }
+    ensures result_value { count_of result ≡ makes [] (zero_bits (table kinds.now lefts.now rights.now groups.now count) res) out.old }
+    ensures out_after { out.new ≡ made [] (zero_bits (table kinds.now lefts.now rights.now groups.now count) res) out.old }
 {
     let width = checked_nodes::width_of(kinds, lefts, rights, groups, count, res);
     if out.len() < bits::bytes_for(width) {
@@ -49,8 +49,8 @@ pub fn wrap(
 ) -> Count
     requires held { Held (table kinds.now lefts.now rights.now groups.now count) (record_of bytes.now offset node) }
     requires named { Named (table kinds.now lefts.now rights.now groups.now count) res }
-    ensures result_value { count_of result ≡ makes (shaped (wrapFits right (table kinds.now lefts.now rights.now groups.now count) node res)) (wrapBits right (table kinds.now lefts.now rights.now groups.now count) (record_of bytes.now offset node) res) out.old }
-    ensures out_after { out.new ≡ made (shaped (wrapFits right (table kinds.now lefts.now rights.now groups.now count) node res)) (wrapBits right (table kinds.now lefts.now rights.now groups.now count) (record_of bytes.now offset node) res) out.old }
+    ensures result_value { count_of result ≡ makes (shaped (wrap_fits right (table kinds.now lefts.now rights.now groups.now count) node res)) (wrap_bits right (table kinds.now lefts.now rights.now groups.now count) (record_of bytes.now offset node) res) out.old }
+    ensures out_after { out.new ≡ made (shaped (wrap_fits right (table kinds.now lefts.now rights.now groups.now count) node res)) (wrap_bits right (table kinds.now lefts.now rights.now groups.now count) (record_of bytes.now offset node) res) out.old }
 {
     if !value_fitting::wraps(kinds, lefts, rights, groups, count, node, res, right) {
         return Count::Refused(answers::WRONG_SHAPE);
@@ -84,8 +84,8 @@ pub fn join(
     requires held { Held (table kinds.now lefts.now rights.now groups.now count) (record_of a_bytes.now a_offset a_node) }
     requires held_2 { Held (table kinds.now lefts.now rights.now groups.now count) (record_of b_bytes.now b_offset b_node) }
     requires named { Named (table kinds.now lefts.now rights.now groups.now count) res }
-    ensures result_value { count_of result ≡ makes (shaped (joinFits (table kinds.now lefts.now rights.now groups.now count) a_node b_node res)) (productBits (table kinds.now lefts.now rights.now groups.now count) (record_of a_bytes.now a_offset a_node) (record_of b_bytes.now b_offset b_node)) out.old }
-    ensures out_after { out.new ≡ made (shaped (joinFits (table kinds.now lefts.now rights.now groups.now count) a_node b_node res)) (productBits (table kinds.now lefts.now rights.now groups.now count) (record_of a_bytes.now a_offset a_node) (record_of b_bytes.now b_offset b_node)) out.old }
+    ensures result_value { count_of result ≡ makes (shaped (join_fits (table kinds.now lefts.now rights.now groups.now count) a_node b_node res)) (product_bits (table kinds.now lefts.now rights.now groups.now count) (record_of a_bytes.now a_offset a_node) (record_of b_bytes.now b_offset b_node)) out.old }
+    ensures out_after { out.new ≡ made (shaped (join_fits (table kinds.now lefts.now rights.now groups.now count) a_node b_node res)) (product_bits (table kinds.now lefts.now rights.now groups.now count) (record_of a_bytes.now a_offset a_node) (record_of b_bytes.now b_offset b_node)) out.old }
 {
     if !value_fitting::joins(kinds, lefts, rights, groups, count, a_node, b_node, res) {
         return Count::Refused(answers::WRONG_SHAPE);

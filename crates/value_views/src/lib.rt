@@ -3,9 +3,9 @@
 ghost use Rattle.std.specs.Prelude.{◌≡◌};
 ghost use Rattle.meaning.specs.Tables.{table};
 ghost use Rattle.meaning.specs.Ladder.{record_of};
-ghost use Rattle.answers.specs.Verdicts.{spot_of, spotsOf};
+ghost use Rattle.answers.specs.Verdicts.{spot_of, spots_of};
 ghost use Rattle.checked.specs.Passed.{Held};
-ghost use Rattle.value_views.specs.Views.{payloadAt, parts_at};
+ghost use Rattle.value_views.specs.Views.{payload_at, parts_at};
 
 use answers::{Spot, SpotAnswer, SpotsAnswer};
 
@@ -25,7 +25,7 @@ pub fn payload(
     right: bool,
 ) -> SpotAnswer
     requires { Held (table kinds.now lefts.now rights.now groups.now count) (record_of bytes.now offset node) }
-    ensures { spot_of result ≡ payloadAt right (table kinds.now lefts.now rights.now groups.now count) (record_of bytes.now offset node) }
+    ensures { spot_of result ≡ payload_at right (table kinds.now lefts.now rights.now groups.now count) (record_of bytes.now offset node) }
 {
     let n = nodes::node_at(kinds, lefts, rights, groups, count, node);
     let width = n.width as usize;
@@ -59,7 +59,7 @@ pub fn parts(
     node: usize,
 ) -> SpotsAnswer
     requires { Held (table kinds.now lefts.now rights.now groups.now count) (record_of bytes.now offset node) }
-    ensures { spotsOf result ≡ parts_at (table kinds.now lefts.now rights.now groups.now count) (record_of bytes.now offset node) }
+    ensures { spots_of result ≡ parts_at (table kinds.now lefts.now rights.now groups.now count) (record_of bytes.now offset node) }
 {
     let n = nodes::node_at(kinds, lefts, rights, groups, count, node);
     let width = n.width as usize;

@@ -1,7 +1,7 @@
 -- A view taken apart, and put together: what it owns is what its three fields own.
 --
---   fieldTypes fields field_vals the types of the fields, their values and machine values
---   view-told                   what a walk has to know of a view that is passed
+--   field_types fields field_vals the types of the fields, their values and machine values
+--   view_told                   what a walk has to know of a view that is passed
 --   opened closed               what the view owns and what the fields own, the one from the other
 -- Assumes nothing.
 use mathlib.Core.List.{List, [], ◌∷◌}
@@ -22,26 +22,26 @@ use Rattle.view.specs.contracts.View as T
 use Rattle.view.proofs.View.TheLaws as T'
 use Rattle.view.proofs.Passed.{Spelled}
 
-abbrev pub fieldTypes : NamedLft → List RattleType
-fieldTypes α = ShrSlice α.mir α.lft u8 ∷ usize ∷ usize ∷ []
+abbrev pub field_types : NamedLft → List RattleType
+field_types α = ShrSlice α.mir α.lft u8 ∷ usize ∷ usize ∷ []
 
-abbrev pub fields : (α : NamedLft) → View → Denots (fieldTypes α)
+abbrev pub fields : (α : NamedLft) → View → Denots (field_types α)
 fields α d = (d.bytes, (d.offset, (d.node, tt)))
 
-abbrev pub field_vals : (α : NamedLft) → View → Valss (fieldTypes α)
+abbrev pub field_vals : (α : NamedLft) → View → Valss (field_types α)
 field_vals α d = (slice_val d.bytes.ref_ptr (length d.bytes.now) ∷ [], (vint w64 d.offset ∷ [], (vint w64 d.node ∷ [], tt)))
 
 module _ {M : Type 1} {𝓤 : Ura M} (𝓛 : Logic 𝓤) (α : NamedLft) where
-  abbrev pub view-told : Spelled 𝓛 (T.the_row α)
-  view-told = record {
+  abbrev pub view_told : Spelled 𝓛 (T.the_row α)
+  view_told = record {
     vals = LL.vals (T.the_type α) (T'.the_laws α);
     tells = LL.tells (T.the_type α) (T'.the_laws α);
     lawful = LL.lawful (T.the_type α) (T'.the_laws α) 𝓛;
   }
 
 module _ {M : Type 1} {𝓤 : Ura M} (𝓛 : Logic 𝓤) (α : NamedLft) (d : View) where
-  pub opened : ent 𝓤 (sem 𝓛 ((T.the_row α).own_val d (T'.lowered d ∷ []))) (sem 𝓛 (owns (fieldTypes α) (fields α d) (field_vals α d)))
+  pub opened : ent 𝓤 (sem 𝓛 ((T.the_row α).own_val d (T'.lowered d ∷ []))) (sem 𝓛 (owns (field_types α) (fields α d) (field_vals α d)))
   opened = via 𝓤 _ (own_open 𝓛 (T.the_type α) (T'.the_laws α) (fields α d) (T'.lowered d)) (guard_e 𝓤 _ _ (λ _. id⊢ 𝓤 _))
 
-  pub closed : ent 𝓤 (sem 𝓛 (owns (fieldTypes α) (fields α d) (field_vals α d))) (sem 𝓛 ((T.the_row α).own_val d (T'.lowered d ∷ [])))
+  pub closed : ent 𝓤 (sem 𝓛 (owns (field_types α) (fields α d) (field_vals α d))) (sem 𝓛 ((T.the_row α).own_val d (T'.lowered d ∷ [])))
   closed = own_shut 𝓛 (T.the_type α) (T'.the_laws α) (fields α d)

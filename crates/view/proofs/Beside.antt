@@ -1,13 +1,13 @@
 -- A function that takes a table and a view, calls another on the table and the view's parts, and answers what that answers beside the view's bytes:
 -- one walk, for whatever is called and whatever it answers.
 --
---   viewLft                     the view's lifetime
+--   view_lft                    the view's lifetime
 --   asking answering            the signature of the callee, whose answer is S; the signature of the function, whose result is R
 --   beside name_of               the function's MIR; the name of a struct in it
---   besideVal                   the machine value of the result
---   handed handedOn             what the function is handed, and what it hands on
+--   beside_val                  the machine value of the result
+--   handed handed_on            what the function is handed, and what it hands on
 --   Answer Promise              what the walk has to know of the answer, and of the two contracts
---   beside-meets                the function meets its contract, if the callee meets its own
+--   beside_meets                the function meets its contract, if the callee meets its own
 -- Assumes nothing.
 use mathlib.Core.Path.{refl}
 use Prim.Native.Nat.{ℕ, ◌+◌}
@@ -45,44 +45,44 @@ use denote.Triple.Spec.{Meets}
 use Rattle.view.specs.declared.View.{View}
 use Rattle.view.specs.contracts.View as T
 use Rattle.view.proofs.View.TheLaws as T'
-use Rattle.view.proofs.Apart.{fieldTypes, fields, field_vals, view-told, opened}
-use Rattle.view.proofs.Columns.{slices, columnParams, lfts, nextLft, slice, columnLocals, columnSlots, columnTypes, Columns, columnVals, columns-told}
-use Rattle.view.proofs.Locals.{from-to, allocates, clears, arg}
-use Rattle.view.proofs.Owned.{denotsOf, valssOf, firsts, seconds, front-with}
-use Rattle.view.proofs.Passed.{toldsOf}
+use Rattle.view.proofs.Apart.{field_types, fields, field_vals, view_told, opened}
+use Rattle.view.proofs.Columns.{slices, column_params, lfts, next_lft, slice, column_locals, column_slots, column_types, Columns, column_vals, columns_told}
+use Rattle.view.proofs.Locals.{from_to, allocates, clears, arg}
+use Rattle.view.proofs.Owned.{denots_of, valss_of, firsts, seconds, front_with}
+use Rattle.view.proofs.Passed.{tolds_of}
 use Rattle.view.proofs.Thin.{Quiet, Asked, begins, asks, hears, ends}
 
 -- ---- the two signatures, each with one lifetime beside those of the table: that of the view
-abbrev pub viewLft : Lfts (lfts 1) → NamedLft
-viewLft κs = nextLft 1 0 tt κs
+abbrev pub view_lft : Lfts (lfts 1) → NamedLft
+view_lft κs = next_lft 1 0 tt κs
 
-abbrev viewName : Lifetime
-viewName = named slices
+abbrev view_name : Lifetime
+view_name = named slices
 
-abbrev askingSlots : List (Slot (lfts 1))
-askingSlots = columnSlots 1 ++ plain (λ κs. ShrSlice (viewLft κs).mir (viewLft κs).lft u8) ∷ plain (λ κs. usize) ∷ plain (λ κs. usize) ∷ []
+abbrev asking_slots : List (Slot (lfts 1))
+asking_slots = column_slots 1 ++ plain (λ κs. ShrSlice (view_lft κs).mir (view_lft κs).lft u8) ∷ plain (λ κs. usize) ∷ plain (λ κs. usize) ∷ []
 
-abbrev answeringSlots : List (Slot (lfts 1))
-answeringSlots = columnSlots 1 ++ plain (λ κs. T.the_row (viewLft κs)) ∷ []
+abbrev answering_slots : List (Slot (lfts 1))
+answering_slots = column_slots 1 ++ plain (λ κs. T.the_row (view_lft κs)) ∷ []
 
 abbrev pub asking : RattleType → Ended
-asking S = record { signature = record { lifetimes = lfts 1; outlives = []; params = askingSlots; result = plain (λ κs. S) }; kept = all yes askingSlots }
+asking S = record { signature = record { lifetimes = lfts 1; outlives = []; params = asking_slots; result = plain (λ κs. S) }; kept = all yes asking_slots }
 
 abbrev pub answering : (NamedLft → RattleType) → Ended
 answering R = record {
-  signature = record { lifetimes = lfts 1; outlives = []; params = answeringSlots; result = plain (λ κs. R (viewLft κs)) };
-  kept = all yes answeringSlots;
+  signature = record { lifetimes = lfts 1; outlives = []; params = answering_slots; result = plain (λ κs. R (view_lft κs)) };
+  kept = all yes answering_slots;
 }
 
 -- ---- the MIR: `let at = f(kinds, .., count, v.bytes, v.offset, v.node); R { bytes: v.bytes, at }`, at an answer of the type τ and a struct of the name ν
-abbrev besideTy : Sym → Ty → Ty
-besideTy ν τ = ty_struct ν (tcons (slice_ty (ty_ref viewName imm (ty_int w8))) (tcons τ tnil))
+abbrev beside_ty : Sym → Ty → Ty
+beside_ty ν τ = ty_struct ν (tcons (slice_ty (ty_ref view_name imm (ty_int w8))) (tcons τ tnil))
 
 abbrev locals : Sym → Ty → List Local
 locals ν τ =
-    local (besideTy ν τ) value_local
-    ∷ columnLocals
-    ++ local (T'.mir viewName) value_local
+    local (beside_ty ν τ) value_local
+    ∷ column_locals
+    ++ local (T'.mir view_name) value_local
     ∷ local τ value_local
     ∷ slice erased (ty_int w8)
     ∷ local (ty_int w64) value_local
@@ -103,23 +103,23 @@ body f =
     (seq (assign (place 0 []) (aggregate (at 11 ∷ at 7 ∷ []))) return)))))
 
 abbrev pub beside : Name → Sym → Ty → Fn
-beside f ν τ = record { lifetimes = lfts 1; outlives = []; params = 1 + columnParams; locals = locals ν τ; body = body f }
+beside f ν τ = record { lifetimes = lfts 1; outlives = []; params = 1 + column_params; locals = locals ν τ; body = body f }
 
 -- the name of a struct
 abbrev pub name_of : (NamedLft → Declared) → Sym
 name_of N = (N (record { mir = erased; lft = [] })).name
 
 -- the machine value of a slice beside that of an answer
-abbrev pub besideVal : Bor (List ℕ) → Val → Val
-besideVal s u = vstruct (vcons (slice_val s.ref_ptr (length s.now)) (vcons u vnil))
+abbrev pub beside_val : Bor (List ℕ) → Val → Val
+beside_val s u = vstruct (vcons (slice_val s.ref_ptr (length s.now)) (vcons u vnil))
 
 -- ---- what the function and its callee are handed: the table t, and the view d or its parts
 module _ (κs : Lfts (lfts 1)) (t : Columns 1 κs) (d : View) where
-  abbrev pub handed : Denots (columnTypes 1 κs ++ T.the_row (viewLft κs) ∷ [])
-  handed = denotsOf (columnTypes 1 κs) (T.the_row (viewLft κs) ∷ []) t (d, tt)
+  abbrev pub handed : Denots (column_types 1 κs ++ T.the_row (view_lft κs) ∷ [])
+  handed = denots_of (column_types 1 κs) (T.the_row (view_lft κs) ∷ []) t (d, tt)
 
-  abbrev pub handedOn : Denots (columnTypes 1 κs ++ fieldTypes (viewLft κs))
-  handedOn = denotsOf (columnTypes 1 κs) (fieldTypes (viewLft κs)) t (fields (viewLft κs) d)
+  abbrev pub handed_on : Denots (column_types 1 κs ++ field_types (view_lft κs))
+  handed_on = denots_of (column_types 1 κs) (field_types (view_lft κs)) t (fields (view_lft κs) d)
 
 -- ---- what the walk has to know
 module _ {M : Type 1} {𝓤 : Ura M} (𝓛 : Logic 𝓤) where
@@ -129,7 +129,7 @@ module _ {M : Type 1} {𝓤 : Ura M} (𝓛 : Logic 𝓤) where
     pub made : (α : NamedLft) → Bor (List ℕ) → S.Denot → (R α).Denot
     pub pack : (α : NamedLft) (s : Bor (List ℕ)) (r : S.Denot) (u : Val)
         → ent 𝓤 (sem 𝓛 (owns (ShrSlice α.mir α.lft u8 ∷ S ∷ []) (s, (r, tt)) (slice_val s.ref_ptr (length s.now) ∷ [], (u ∷ [], tt))))
-        (sem 𝓛 ((R α).own (made α s r) (besideVal s u ∷ [])))
+        (sem 𝓛 ((R α).own (made α s r) (beside_val s u ∷ [])))
 
   -- of the two contracts: the callee requires nothing, and what it says of its answer is what the function says of its result
   pub record Promise (S : RattleType) (R : NamedLft → RattleType) (made : (α : NamedLft) → Bor (List ℕ) → S.Denot → (R α).Denot)
@@ -138,9 +138,9 @@ module _ {M : Type 1} {𝓤 : Ura M} (𝓛 : Logic 𝓤) where
     pub free : (κs : Lfts (lfts 1)) (b : Args (asking S).signature κs) → ent 𝓤 (emp 𝓤) ((asked κs b).requires (ghost κs b))
     pub known : (κs : Lfts (lfts 1)) → Columns 1 κs → View → S.Denot → Type 0
     pub said : (κs : Lfts (lfts 1)) (t : Columns 1 κs) (d : View) (r : S.Denot) (e : AtExit (asking S) κs)
-        → ent 𝓤 ((asked κs (handedOn κs t d)).ensures (ghost κs (handedOn κs t d)) r e) (fact 𝓤 (known κs t d r))
+        → ent 𝓤 ((asked κs (handed_on κs t d)).ensures (ghost κs (handed_on κs t d)) r e) (fact 𝓤 (known κs t d r))
     pub says : (κs : Lfts (lfts 1)) (t : Columns 1 κs) (d : View) (g : (answered κs (handed κs t d)).ghost) (r : S.Denot) → known κs t d r
-        → (e : AtExit (answering R) κs) → ent 𝓤 (emp 𝓤) ((answered κs (handed κs t d)).ensures g (made (viewLft κs) d.bytes r) e)
+        → (e : AtExit (answering R) κs) → ent 𝓤 (emp 𝓤) ((answered κs (handed κs t d)).ensures g (made (view_lft κs) d.bytes r) e)
 
 module _ {M : Type 1} {𝓤 : Ura M} (𝓛 : Logic 𝓤) (f : Name) (S : RattleType) (τ : Ty) (ν : Sym) (R : NamedLft → RattleType)
     (answer : Answer 𝓛 S τ R) (asked : Clauses 𝓤 (asking S)) (answered : Clauses 𝓤 (answering R)) (promise : Promise 𝓛 S R answer.made asked answered) where
@@ -152,12 +152,12 @@ module _ {M : Type 1} {𝓤 : Ura M} (𝓛 : Logic 𝓤) (f : Name) (S : RattleT
   abbrev Function : Contract 𝓤
   Function = Asked 𝓛 (answering R) answered
 
-  quiet : Quiet (answering R) (1 + columnParams)
+  quiet : Quiet (answering R) (1 + column_params)
   quiet = record { bound = λ κs a. refl; told = λ κs a ws. refl }
 
   module _ (κs : Lfts (lfts 1)) (qs : Shares (lfts 1)) (t : Columns 1 κs) (d : View) where
     abbrev α : NamedLft
-    α = viewLft κs
+    α = view_lft κs
 
     abbrev mach : Val
     mach = T'.lowered d
@@ -166,42 +166,42 @@ module _ {M : Type 1} {𝓤 : Ura M} (𝓛 : Logic 𝓤) (f : Name) (S : RattleT
     v = slice_val d.bytes.ref_ptr (length d.bytes.now)
 
     abbrev params : List RattleType
-    params = columnTypes 1 κs ++ T.the_row α ∷ []
+    params = column_types 1 κs ++ T.the_row α ∷ []
 
     abbrev a : Args (answering R).signature κs
     a = handed κs t d
 
     abbrev vs : Vals (answering R).signature κs
-    vs = valssOf (columnTypes 1 κs) (T.the_row α ∷ []) (columnVals 1 κs t) (mach ∷ [], tt)
+    vs = valss_of (column_types 1 κs) (T.the_row α ∷ []) (column_vals 1 κs t) (mach ∷ [], tt)
 
     abbrev b : Args (asking S).signature κs
-    b = handedOn κs t d
+    b = handed_on κs t d
 
     -- what the callee is passed
     abbrev to : Callee.Ghost
-    to = ((κs, qs, tt, b, valssOf (columnTypes 1 κs) (fieldTypes α) (columnVals 1 κs t) (field_vals α d)), promise.ghost κs b)
+    to = ((κs, qs, tt, b, valss_of (column_types 1 κs) (field_types α) (column_vals 1 κs t) (field_vals α d)), promise.ghost κs b)
 
     -- what the slice owns
     abbrev Own : SProp 𝓤
-    Own = sem 𝓛 ((ShrSlice viewName α.lft u8).own_val d.bytes (v ∷ []))
+    Own = sem 𝓛 ((ShrSlice view_name α.lft u8).own_val d.bytes (v ∷ []))
 
     -- the slice is Copy: of a view there are its parts, and its slice once more
-    parts : ent 𝓤 (sem 𝓛 (owns (T.the_row α ∷ []) (d, tt) (mach ∷ [], tt))) (sep 𝓤 (sem 𝓛 (owns (fieldTypes α) (fields α d) (field_vals α d))) Own)
+    parts : ent 𝓤 (sem 𝓛 (owns (T.the_row α ∷ []) (d, tt) (mach ∷ [], tt))) (sep 𝓤 (sem 𝓛 (owns (field_types α) (fields α d) (field_vals α d))) Own)
     parts =
         let view : SProp 𝓤 = sem 𝓛 ((T.the_row α).own_val d (mach ∷ [])) in
         let rest : SProp 𝓤 = sem 𝓛 (owns (usize ∷ usize ∷ []) (d.offset, (d.node, tt)) (field_vals α d).1) in
         via 𝓤 view (fst∗ 𝓤 view (emp 𝓤))
         (via 𝓤 (sep 𝓤 Own rest) (opened 𝓛 α d)
-        (qed 𝓛 (raw Own ∷ raw rest ∷ []) ∵ use1 𝓛 (raw Own ⊛ raw Own) ((shr_slice_copy 𝓛 viewName α.lft u8).twice d.bytes (v ∷ [])) $ split ! $
+        (qed 𝓛 (raw Own ∷ raw rest ∷ []) ∵ use1 𝓛 (raw Own ⊛ raw Own) ((shr_slice_copy 𝓛 view_name α.lft u8).twice d.bytes (v ∷ [])) $ split ! $
         move ! (0 ∷ 2 ∷ []) $ join ! $ done !))
 
     lends : ent 𝓤 (on_entry 𝓛 (answering R).signature κs qs a vs) (sep 𝓤 (Callee.pre to) Own)
     lends =
         let tokens : SProp 𝓤 = alive 𝓛 (asking S).signature κs qs in
-        let passed : SProp 𝓤 = sem 𝓛 (owns (columnTypes 1 κs ++ fieldTypes α) to.0.3 to.0.4) in
+        let passed : SProp 𝓤 = sem 𝓛 (owns (column_types 1 κs ++ field_types α) to.0.3 to.0.4) in
         via 𝓤 (sep 𝓤 tokens (sep 𝓤 passed Own))
-        (mono_r 𝓤 tokens (front-with 𝓛 (T.the_row α ∷ []) (fieldTypes α) (d, tt) (mach ∷ [], tt) (fields α d) (field_vals α d) Own parts (columnTypes 1 κs) t
-        (columnVals 1 κs t)))
+        (mono_r 𝓤 tokens (front_with 𝓛 (T.the_row α ∷ []) (field_types α) (d, tt) (mach ∷ [], tt) (fields α d) (field_vals α d) Own parts (column_types 1 κs) t
+        (column_vals 1 κs t)))
         (via 𝓤 (sep 𝓤 (sep 𝓤 tokens passed) Own) (assoc' 𝓤 tokens passed Own) (mono_l 𝓤 Own (asks 𝓛 (asking S) asked to (promise.free κs b))))
 
     module _ (g : (answered κs a).ghost) where
@@ -209,21 +209,21 @@ module _ {M : Type 1} {𝓤 : Ura M} (𝓛 : Logic 𝓤) (f : Name) (S : RattleT
       here = ((κs, qs, tt, a, vs), g)
 
       exits : (r : S.Denot) (u : Val) → promise.known κs t d r → ent 𝓤 (⋆ 𝓛 (‵ (S.own r (u ∷ [])) ∷ raw (alive 𝓛 (asking S).signature κs qs) ∷ raw Own ∷ []))
-          (Function.post here (besideVal d.bytes u))
+          (Function.post here (beside_val d.bytes u))
       exits r u e =
           let tokens : SProp 𝓤 = alive 𝓛 (asking S).signature κs qs in
           let own : SProp 𝓤 = sem 𝓛 (S.own r (u ∷ [])) in
-          let both : SProp 𝓤 = sem 𝓛 (owns (ShrSlice viewName α.lft u8 ∷ S ∷ []) (d.bytes, (r, tt)) (v ∷ [], (u ∷ [], tt))) in
+          let both : SProp 𝓤 = sem 𝓛 (owns (ShrSlice view_name α.lft u8 ∷ S ∷ []) (d.bytes, (r, tt)) (v ∷ [], (u ∷ [], tt))) in
           via 𝓤 (sep 𝓤 both tokens)
           (qed 𝓛 (raw own ∷ raw tokens ∷ raw Own ∷ []) ∵ nothing ! $ move ! (1 ∷ 0 ∷ []) $ join ! $ move ! (2 ∷ 0 ∷ []) $ join ! $ done !)
-          (via 𝓤 (sep 𝓤 (sem 𝓛 ((R α).own (answer.made α d.bytes r) (besideVal d.bytes u ∷ []))) tokens) (mono_l 𝓤 tokens (answer.pack α d.bytes r u))
-          (ends 𝓛 (answering R) answered here (besideVal d.bytes u) (1 + columnParams) quiet (answer.made α d.bytes r) (promise.says κs t d g r e)))
+          (via 𝓤 (sep 𝓤 (sem 𝓛 ((R α).own (answer.made α d.bytes r) (beside_val d.bytes u ∷ []))) tokens) (mono_l 𝓤 tokens (answer.pack α d.bytes r u))
+          (ends 𝓛 (answering R) answered here (beside_val d.bytes u) (1 + column_params) quiet (answer.made α d.bytes r) (promise.says κs t d g r e)))
 
       module _ (C : Calls 𝓤 H) (Λ : Loops 𝓤 H) (fm : FmC 𝓤 H 𝓛.laws C) (met : Triple 𝓤 (C f) Callee) where
         walk : Typed (mirs params) (flat params vs)
             → ent 𝓤 (on_entry 𝓛 (answering R).signature κs qs a vs) (WpFn 𝓤 H C Λ (beside f ν τ) (flat params vs) (Function.post here))
         walk ty =
-            let wt : Holds (has_ty (T'.mir viewName) mach) × WT mach = ty.1.1.1.1.1.0 in
+            let wt : Holds (has_ty (T'.mir view_name) mach) × WT mach = ty.1.1.1.1.1.0 in
             qed 𝓛 (raw (on_entry 𝓛 (answering R).signature κs qs a vs) ∷ []) ∵ enter ! C Λ (beside f ν τ) (flat params vs) _ $
             allocates ! (locals ν τ) (λ l. params1 ! $
             pass1 ! (init ! 20 refl ty.0) $ pass1 ! (init ! 18 refl ty.1.0) $ pass1 ! (init ! 16 refl ty.1.1.0) $
@@ -245,15 +245,15 @@ module _ {M : Type 1} {𝓤 : Ura M} (𝓛 : Logic 𝓤) (f : Name) (S : RattleT
             assigns ! (of_opd ! (load ! (from ! (fld ! refl (stop !))) (look_in ! 13 (sub ! 0 refl (whole !))))) (from ! (stop !))
             (init ! 3 refl (tt, wt.1.0)) $
             assigns ! (agg ! (and_then ! (arg ! 3 refl) (and_then ! (arg ! 11 refl) (no_more !)))) (from ! (stop !))
-            (init ! 25 refl (as_fields (slice_ty (ty_ref viewName imm (ty_int w8)) ∷ τ ∷ []) (v ∷ u ∷ []) ((tt, wt.1.0), (answer.typed r u is, tt)))) $
-            returns ! (look ! 25 refl) $ move ! (from-to 3 24) $
-            clears ! (locals ν τ) l (besideVal d.bytes u ∷ (flat params vs ++ u ∷ v ∷ vint w64 d.offset ∷ vint w64 d.node ∷ v ∷ [])) $
+            (init ! 25 refl (as_fields (slice_ty (ty_ref view_name imm (ty_int w8)) ∷ τ ∷ []) (v ∷ u ∷ []) ((tt, wt.1.0), (answer.typed r u is, tt)))) $
+            returns ! (look ! 25 refl) $ move ! (from_to 3 24) $
+            clears ! (locals ν τ) l (beside_val d.bytes u ∷ (flat params vs ++ u ∷ v ∷ vint w64 d.offset ∷ vint w64 d.node ∷ v ∷ [])) $
             by ! (exits r u e))))
 
-  pub beside-meets : (𝓣 : Tables 𝓤 H) → Triple 𝓤 (𝓣.C f) Callee
+  pub beside_meets : (𝓣 : Tables 𝓤 H) → Triple 𝓤 (𝓣.C f) Callee
       → Meets 𝓛 (answering R).signature (WpFn 𝓤 H 𝓣.C 𝓣.Λ (beside f ν τ)) (closing 𝓛 (answering R) answered)
-  beside-meets 𝓣 met =
+  beside_meets 𝓣 met =
       begins 𝓛 (answering R) answered (WpFn 𝓤 H 𝓣.C 𝓣.Λ (beside f ν τ))
-      (λ κs. toldsOf 𝓛 (columnTypes 1 κs) (T.the_row (viewLft κs) ∷ []) (columns-told 1 κs 𝓛) (view-told 𝓛 (viewLft κs), tt))
-      (λ κs qs bounds a g ty. walk κs qs (firsts (columnTypes 1 κs) (T.the_row (viewLft κs) ∷ []) a) (seconds (columnTypes 1 κs) (T.the_row (viewLft κs) ∷ []) a).0 g 𝓣.C 𝓣.Λ
+      (λ κs. tolds_of 𝓛 (column_types 1 κs) (T.the_row (view_lft κs) ∷ []) (columns_told 1 κs 𝓛) (view_told 𝓛 (view_lft κs), tt))
+      (λ κs qs bounds a g ty. walk κs qs (firsts (column_types 1 κs) (T.the_row (view_lft κs) ∷ []) a) (seconds (column_types 1 κs) (T.the_row (view_lft κs) ∷ []) a).0 g 𝓣.C 𝓣.Λ
       (fm_of 𝓤 H 𝓛.laws 𝓣) met ty)

@@ -2,13 +2,13 @@
 -- stands here; a walk counts from it the positions of its locals.
 --
 --   lfts                        the lifetimes of a signature: one for each slice of a table, and n after them
---   slices columnParams         how many slices a table has; how many parameters it takes
---   columnSlots columnTypes     their places in a signature, at its first lifetimes; their types
---   slice columnLocals          a slice as a local of a function's MIR; the locals that they are
---   nextLft                     the lifetime that comes j after theirs
+--   slices column_params        how many slices a table has; how many parameters it takes
+--   column_slots column_types   their places in a signature, at its first lifetimes; their types
+--   slice column_locals         a slice as a local of a function's MIR; the locals that they are
+--   next_lft                    the lifetime that comes j after theirs
 --   Columns                     their values
---   columnVals                  their machine values
---   columns-told                what a walk has to know of them
+--   column_vals                 their machine values
+--   columns_told                what a walk has to know of them
 --   table_of                     the table that they make
 -- Assumes nothing.
 use Prim.Native.Nat.{ℕ, suc, ◌+◌}
@@ -25,7 +25,7 @@ use denote.Ref.{NamedLft}
 use denote.Signature.{Slot, plain, types_at, named_lft}
 use denote.Slice.{slice_ty, ShrSlice, shr_slice_vals}
 use Rattle.meaning.specs.Tables.{Table, table}
-use Rattle.view.proofs.Passed.{AllSpelled, slice-told, size-told}
+use Rattle.view.proofs.Passed.{AllSpelled, slice_told, size_told}
 
 abbrev pub lfts : ℕ → ℕ
 lfts n = suc (suc (suc (suc n)))
@@ -33,11 +33,11 @@ lfts n = suc (suc (suc (suc n)))
 abbrev pub slices : ℕ
 slices = lfts 0
 
-abbrev pub columnParams : ℕ
-columnParams = slices + 1
+abbrev pub column_params : ℕ
+column_params = slices + 1
 
-abbrev pub columnSlots : (n : ℕ) → List (Slot (lfts n))
-columnSlots n =
+abbrev pub column_slots : (n : ℕ) → List (Slot (lfts n))
+column_slots n =
     plain (λ κs. ShrSlice (named 0) κs.0 u8)
     ∷ plain (λ κs. ShrSlice (named 1) κs.1.0 u16)
     ∷ plain (λ κs. ShrSlice (named 2) κs.1.1.0 u16)
@@ -48,8 +48,8 @@ columnSlots n =
 abbrev pub slice : Lifetime → Ty → Local
 slice ℓ τ = local (slice_ty (ty_ref ℓ imm τ)) value_local
 
-abbrev pub columnLocals : List Local
-columnLocals =
+abbrev pub column_locals : List Local
+column_locals =
     slice (named 0) (ty_int w8)
     ∷ slice (named 1) (ty_int w16)
     ∷ slice (named 2) (ty_int w16)
@@ -57,27 +57,27 @@ columnLocals =
     ∷ local (ty_int w64) value_local
     ∷ []
 
-abbrev pub nextLft : (n j : ℕ) → Within (lfts n) (slices + j) → Lfts (lfts n) → NamedLft
-nextLft n j ok κs = named_lft (lfts n) (slices + j) ok κs
+abbrev pub next_lft : (n j : ℕ) → Within (lfts n) (slices + j) → Lfts (lfts n) → NamedLft
+next_lft n j ok κs = named_lft (lfts n) (slices + j) ok κs
 
 module _ (n : ℕ) (κs : Lfts (lfts n)) where
-  abbrev pub columnTypes : List RattleType
-  columnTypes = types_at (columnSlots n) κs
+  abbrev pub column_types : List RattleType
+  column_types = types_at (column_slots n) κs
 
   abbrev pub Columns : Type 0
-  Columns = Denots columnTypes
+  Columns = Denots column_types
 
-  abbrev pub columns-told : {M : Type 1} {𝓤 : Ura M} (𝓛 : Logic 𝓤) → AllSpelled 𝓛 columnTypes
-  columns-told 𝓛 = (
-    slice-told 𝓛 (named 0) κs.0 u8,
+  abbrev pub columns_told : {M : Type 1} {𝓤 : Ura M} (𝓛 : Logic 𝓤) → AllSpelled 𝓛 column_types
+  columns_told 𝓛 = (
+    slice_told 𝓛 (named 0) κs.0 u8,
     (
-      slice-told 𝓛 (named 1) κs.1.0 u16,
-      (slice-told 𝓛 (named 2) κs.1.1.0 u16, (slice-told 𝓛 (named 3) κs.1.1.1.0 u8, (size-told 𝓛, tt))),
+      slice_told 𝓛 (named 1) κs.1.0 u16,
+      (slice_told 𝓛 (named 2) κs.1.1.0 u16, (slice_told 𝓛 (named 3) κs.1.1.1.0 u8, (size_told 𝓛, tt))),
     ),
   )
 
-  abbrev pub columnVals : Columns → Valss columnTypes
-  columnVals t = valss columnTypes (shr_slice_vals, (shr_slice_vals, (shr_slice_vals, (shr_slice_vals, (uint_vals w64, tt))))) t
+  abbrev pub column_vals : Columns → Valss column_types
+  column_vals t = valss column_types (shr_slice_vals, (shr_slice_vals, (shr_slice_vals, (shr_slice_vals, (uint_vals w64, tt))))) t
 
 -- the table that the parameters make
 module _ (n : ℕ) (κs : Lfts (lfts n)) (t : Columns n κs) where

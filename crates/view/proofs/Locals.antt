@@ -1,10 +1,10 @@
 -- The locals of a function, all at once: a walk allocates them at its start and frees them at its end, however many there are.
 -- After the allocations local i of n stands at position 2 · (n − 1 − i) of the context.
 --
---   Homes envAt                 an address for each local, and the environment that they make
+--   Homes env_at                an address for each local, and the environment that they make
 --   rooms allocates             the locals are allocated: each is room for a value
 --   clears                      the locals are freed, each with its value
---   from-to                     the positions from one on
+--   from_to                     the positions from one on
 --   arg                         a local as an operand
 -- Assumes nothing.
 use mathlib.Core.Path.{◌≡◌, refl}
@@ -41,16 +41,16 @@ fills (l ∷ ls) [] = (vunit, fills ls [])
 fills (l ∷ ls) (v ∷ vs) = (v, fills ls vs)
 
 -- n positions, from k on.
-abbrev pub from-to : ℕ → ℕ → List ℕ
-from-to k zero = []
-from-to k (suc n) = k ∷ from-to (suc k) n
+abbrev pub from_to : ℕ → ℕ → List ℕ
+from_to k zero = []
+from_to k (suc n) = k ∷ from_to (suc k) n
 
 module _ {M : Type 1} {𝓤 : Ura M} (𝓛 : Logic 𝓤) where
   open 𝓛 use {H}
 
-  abbrev pub envAt : (ls : List Local) → Homes ls → Env 𝓤 H
-  envAt [] bs = []
-  envAt (l ∷ ls) bs = (ty_of l, bs.0) ∷ envAt ls bs.1
+  abbrev pub env_at : (ls : List Local) → Homes ls → Env 𝓤 H
+  env_at [] bs = []
+  env_at (l ∷ ls) bs = (ty_of l, bs.0) ∷ env_at ls bs.1
 
   abbrev pub rooms : (ls : List Local) → Homes ls → List (Item 𝓤) → List (Item 𝓤)
   rooms [] bs Γ = Γ
@@ -71,25 +71,25 @@ module _ {M : Type 1} {𝓤 : Ura M} (𝓛 : Logic 𝓤) where
 
   module _ where
     freed : (ls : List Local) (bs : Homes ls) (vs : Fills ls) (Γ : List (Item 𝓤)) (P : SProp 𝓤) → ent 𝓤 (⋆ 𝓛 Γ) P
-        → ent 𝓤 (⋆ 𝓛 (cells ls bs vs Γ)) (release 𝓤 H (envAt ls bs) P)
+        → ent 𝓤 (⋆ 𝓛 (cells ls bs vs Γ)) (release 𝓤 H (env_at ls bs) P)
     freed [] bs vs Γ P h = h
     freed (local τ z ∷ ls) bs vs Γ P h =
         let X : SProp 𝓤 = sep 𝓤 (H.room τ bs.0 zero) (H.dies τ bs.0) in
-        via 𝓤 (release 𝓤 H (envAt ls bs.1) (sep 𝓤 X P))
+        via 𝓤 (release 𝓤 H (env_at ls bs.1) (sep 𝓤 X P))
         (freed ls bs.1 vs.1 (‵ (fat full_share τ bs.0 zero vs.0) ∷ ‵ (fdies τ bs.0) ∷ Γ) (sep 𝓤 X P)
         (qed 𝓛 (‵ (fat full_share τ bs.0 zero vs.0) ∷ ‵ (fdies τ bs.0) ∷ Γ) ∵ forget ! 0 refl $ join ! $ frame ! $ by ! h))
-        (released (envAt ls bs.1) X P)
+        (released (env_at ls bs.1) X P)
 
 module _ {M : Type 1} {𝓤 : Ura M} {𝓛 : Logic 𝓤} {K : Type 0} where
   open 𝓛 use {H}
 
-  pub allocates : K → (ls : List Local) {Γ : List (Item 𝓤)} {Kt : Env 𝓤 H → Goal 𝓤 H} → ((bs : Homes ls) → Seq K 𝓛 (rooms 𝓛 ls bs Γ) (Kt (envAt 𝓛 ls bs)))
+  pub allocates : K → (ls : List Local) {Γ : List (Item 𝓤)} {Kt : Env 𝓤 H → Goal 𝓤 H} → ((bs : Homes ls) → Seq K 𝓛 (rooms 𝓛 ls bs Γ) (Kt (env_at 𝓛 ls bs)))
       → Seq K 𝓛 Γ (allocs ls Kt)
   allocates t [] k = alloc0 t $ k tt
   allocates t (local τ h ∷ ls) {Γ} {Kt} k = alloc1 t (λ b. allocates t ls {Kt = λ E. Kt ((τ, b) ∷ E)} (λ bs. k (b, bs)))
 
   pub clears : K → (ls : List Local) (bs : Homes ls) (vs : List Val) {Γ : List (Item 𝓤)} {g : Goal 𝓤 H}
-      → Step K 𝓛 Γ g (cells 𝓛 ls bs (fills ls vs) Γ) (frees (envAt 𝓛 ls bs) g)
+      → Step K 𝓛 Γ g (cells 𝓛 ls bs (fills ls vs) Γ) (frees (env_at 𝓛 ls bs) g)
   clears t ls bs vs {Γ} {g} = step (λ s. record { prf = freed 𝓛 ls bs (fills ls vs) Γ (aim 𝓤 H g) s.prf })
 
   pub arg : K → (n : ℕ) {Γ : List (Item 𝓤)} {E : Env 𝓤 H} {i : ℕ} {q : Share} {v : Val}

@@ -2,8 +2,8 @@
 --
 --   Spelled AllSpelled                  how the machine values of a type are spelled, that they are told, and that they are well typed; of a list of types
 --   spelling telling lawfuls    each of the three, of a list of types
---   toldsOf                     of two lists of types, one after the other
---   slice-told size-told        of a slice, and of a usize
+--   tolds_of                    of two lists of types, one after the other
+--   slice_told size_told        of a slice, and of a usize
 -- Assumes nothing.
 use mathlib.Core.List.{List, [], ◌∷◌, ◌++◌}
 use seplogic.Ra.Ura.{Ura}
@@ -39,12 +39,12 @@ module _ {M : Type 1} {𝓤 : Ura M} (𝓛 : Logic 𝓤) where
   lawfuls [] ts = tt
   lawfuls (R ∷ Rs) ts = (ts.0.lawful, lawfuls Rs ts.1)
 
-  abbrev pub toldsOf : (Ts Us : List RattleType) → AllSpelled Ts → AllSpelled Us → AllSpelled (Ts ++ Us)
-  toldsOf [] Us ts us = us
-  toldsOf (T ∷ Ts) Us ts us = (ts.0, toldsOf Ts Us ts.1 us)
+  abbrev pub tolds_of : (Ts Us : List RattleType) → AllSpelled Ts → AllSpelled Us → AllSpelled (Ts ++ Us)
+  tolds_of [] Us ts us = us
+  tolds_of (T ∷ Ts) Us ts us = (ts.0, tolds_of Ts Us ts.1 us)
 
-  abbrev pub slice-told : (ℓ : Lifetime) (κ : Lft) (R : RattleType) → Spelled (ShrSlice ℓ κ R)
-  slice-told ℓ κ R = record { vals = shr_slice_vals; tells = shr_slice_Tells ℓ κ R; lawful = shr_slice_Lawful 𝓛 ℓ κ R }
+  abbrev pub slice_told : (ℓ : Lifetime) (κ : Lft) (R : RattleType) → Spelled (ShrSlice ℓ κ R)
+  slice_told ℓ κ R = record { vals = shr_slice_vals; tells = shr_slice_Tells ℓ κ R; lawful = shr_slice_Lawful 𝓛 ℓ κ R }
 
-  abbrev pub size-told : Spelled usize
-  size-told = record { vals = uint_vals w64; tells = uint_Tells w64; lawful = uint_Lawful 𝓛 w64 }
+  abbrev pub size_told : Spelled usize
+  size_told = record { vals = uint_vals w64; tells = uint_Tells w64; lawful = uint_Lawful 𝓛 w64 }

@@ -5,8 +5,8 @@ ghost use Rattle.std.specs.Prelude.{◌≡◌};
 ghost use Rattle.meaning.specs.Tables.{table};
 ghost use Rattle.meaning.specs.Ladder.{record_of};
 ghost use Rattle.meaning.specs.RecordCalls as calls;
-ghost use Rattle.meaning.specs.TypeCalls.{isUnitCall};
-ghost use Rattle.answers.specs.Verdicts.{spot_of, spotsOf, flagOf};
+ghost use Rattle.meaning.specs.TypeCalls.{is_unit_call};
+ghost use Rattle.answers.specs.Verdicts.{spot_of, spots_of, flag_of};
 
 use answers::{Flag, Spot, SpotAnswer, SpotsAnswer};
 
@@ -69,7 +69,7 @@ pub fn is_unit<'a>(
     count: usize,
     v: View<'a>,
 ) -> Flag
-    ensures { flagOf result ≡ isUnitCall (table kinds.now lefts.now rights.now groups.now count) v.entry.node }
+    ensures { flag_of result ≡ is_unit_call (table kinds.now lefts.now rights.now groups.now count) v.entry.node }
 {
     types::is_unit(kinds, lefts, rights, groups, count, v.node)
 }
@@ -83,7 +83,7 @@ pub fn as_left<'a>(
     count: usize,
     v: View<'a>,
 ) -> Sub<'a>
-    ensures { (result.bytes ≡ v.entry.bytes) × (spot_of result.at ≡ calls.asLeftCall (table kinds.now lefts.now rights.now groups.now count) (record_of v.entry.bytes.now v.entry.offset v.entry.node)) }
+    ensures { (result.bytes ≡ v.entry.bytes) × (spot_of result.at ≡ calls.as_left_call (table kinds.now lefts.now rights.now groups.now count) (record_of v.entry.bytes.now v.entry.offset v.entry.node)) }
 {
     let at = value::as_left(
         kinds, lefts, rights, groups, count, v.bytes, v.offset, v.node,
@@ -100,7 +100,7 @@ pub fn as_right<'a>(
     count: usize,
     v: View<'a>,
 ) -> Sub<'a>
-    ensures { (result.bytes ≡ v.entry.bytes) × (spot_of result.at ≡ calls.asRightCall (table kinds.now lefts.now rights.now groups.now count) (record_of v.entry.bytes.now v.entry.offset v.entry.node)) }
+    ensures { (result.bytes ≡ v.entry.bytes) × (spot_of result.at ≡ calls.as_right_call (table kinds.now lefts.now rights.now groups.now count) (record_of v.entry.bytes.now v.entry.offset v.entry.node)) }
 {
     let at = value::as_right(
         kinds, lefts, rights, groups, count, v.bytes, v.offset, v.node,
@@ -117,7 +117,7 @@ pub fn as_product<'a>(
     count: usize,
     v: View<'a>,
 ) -> Subs<'a>
-    ensures { (result.bytes ≡ v.entry.bytes) × (spotsOf result.at ≡ calls.asProductCall (table kinds.now lefts.now rights.now groups.now count) (record_of v.entry.bytes.now v.entry.offset v.entry.node)) }
+    ensures { (result.bytes ≡ v.entry.bytes) × (spots_of result.at ≡ calls.as_product_call (table kinds.now lefts.now rights.now groups.now count) (record_of v.entry.bytes.now v.entry.offset v.entry.node)) }
 {
     let at = value::as_product(
         kinds, lefts, rights, groups, count, v.bytes, v.offset, v.node,
@@ -135,7 +135,7 @@ pub fn equal<'a, 'b>(
     a: View<'a>,
     b: View<'b>,
 ) -> Flag
-    ensures { flagOf result ≡ calls.equalCall (table kinds.now lefts.now rights.now groups.now count) (record_of a.entry.bytes.now a.entry.offset a.entry.node) (record_of b.entry.bytes.now b.entry.offset b.entry.node) }
+    ensures { flag_of result ≡ calls.equal_call (table kinds.now lefts.now rights.now groups.now count) (record_of a.entry.bytes.now a.entry.offset a.entry.node) (record_of b.entry.bytes.now b.entry.offset b.entry.node) }
 {
     value::equal(
         kinds, lefts, rights, groups, count, a.bytes, a.offset, a.node, b.bytes, b.offset, b.node,
@@ -153,7 +153,7 @@ pub fn left_spot(
     offset: usize,
     node: usize,
 ) -> SpotAnswer
-    ensures { spot_of result ≡ calls.asLeftCall (table kinds.now lefts.now rights.now groups.now count) (record_of bytes.now offset node) }
+    ensures { spot_of result ≡ calls.as_left_call (table kinds.now lefts.now rights.now groups.now count) (record_of bytes.now offset node) }
 {
     as_left(
         kinds,

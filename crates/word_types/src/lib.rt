@@ -3,7 +3,7 @@
 ghost use Rattle.std.specs.Prelude.{◌≡◌};
 ghost use Rattle.meaning.specs.Tables.{table};
 ghost use Rattle.meaning.specs.TypeCalls as calls;
-ghost use Rattle.answers.specs.Verdicts.{count_of, flagOf};
+ghost use Rattle.answers.specs.Verdicts.{count_of, flag_of};
 
 use answers::{Count, Done, Flag};
 
@@ -16,7 +16,7 @@ pub fn as_word(
     count: usize,
     node: usize,
 ) -> Count
-    ensures { count_of result ≡ calls.asWordCall
+    ensures { count_of result ≡ calls.as_word_call
         (table kinds.now lefts.now rights.now groups.now count) node }
 {
     let judged = checked_present::one(kinds, lefts, rights, groups, count, node);
@@ -32,7 +32,7 @@ pub fn as_word(
 
 // The width of word type n.
 pub fn word_width(n: usize) -> Count
-    ensures { count_of result ≡ calls.wordWidthCall n }
+    ensures { count_of result ≡ calls.word_width_call n }
 {
     if 32 <= n {
         return Count::Refused(answers::OUT_OF_RANGE);
@@ -42,7 +42,7 @@ pub fn word_width(n: usize) -> Count
 
 // The width of buffer type n.
 pub fn buffer_width(n: usize) -> Count
-    ensures { count_of result ≡ calls.bufferWidthCall n }
+    ensures { count_of result ≡ calls.buffer_width_call n }
 {
     if 13 <= n {
         return Count::Refused(answers::OUT_OF_RANGE);
@@ -60,7 +60,7 @@ pub fn is_buffer8(
     node: usize,
     n: usize,
 ) -> Flag
-    ensures { flagOf result ≡ calls.isBuffer8Call
+    ensures { flag_of result ≡ calls.is_buffer8_call
         (table kinds.now lefts.now rights.now groups.now count) node n }
 {
     let judged = checked_present::one(kinds, lefts, rights, groups, count, node);
@@ -82,7 +82,7 @@ pub fn is_ctx8(
     count: usize,
     node: usize,
 ) -> Flag
-    ensures { flagOf result ≡ calls.isCtx8Call
+    ensures { flag_of result ≡ calls.is_ctx8_call
         (table kinds.now lefts.now rights.now groups.now count) node }
 {
     let judged = checked_present::one(kinds, lefts, rights, groups, count, node);

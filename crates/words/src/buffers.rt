@@ -1,7 +1,7 @@
 // Buffers and the hash state.
 ghost use Rattle.std.specs.Prelude.{◌≡◌};
 ghost use Rattle.meaning.specs.Tables.{table};
-ghost use Rattle.meaning.specs.WordCalls.{buffer_call, bufferOut, ctx8Call, ctx8Out};
+ghost use Rattle.meaning.specs.WordCalls.{buffer_call, buffer_out, ctx8_call, ctx8_out};
 ghost use Rattle.answers.specs.Verdicts.{count_of};
 ghost use Rattle.words_states.specs.State.{state_of};
 
@@ -21,7 +21,7 @@ pub fn buffer8_two_n_plus_one(
     out: &mut [u8],
 ) -> Count
     ensures result_value { count_of result ≡ buffer_call (table kinds.now lefts.now rights.now groups.now count) n «data».now res out.old }
-    ensures out_after { out.new ≡ bufferOut (table kinds.now lefts.now rights.now groups.now count) n «data».now res out.old }
+    ensures out_after { out.new ≡ buffer_out (table kinds.now lefts.now rights.now groups.now count) n «data».now res out.old }
 {
     let judged = checked_rungs::named(kinds, lefts, rights, groups, count, res);
     if let Done::Refused(r) = judged {
@@ -41,8 +41,8 @@ pub fn ctx8(
     res: usize,
     out: &mut [u8],
 ) -> Count
-    ensures result_value { count_of result ≡ ctx8Call (table kinds.now lefts.now rights.now groups.now count) (state_of state) res out.old }
-    ensures out_after { out.new ≡ ctx8Out (table kinds.now lefts.now rights.now groups.now count) (state_of state) res out.old }
+    ensures result_value { count_of result ≡ ctx8_call (table kinds.now lefts.now rights.now groups.now count) (state_of state) res out.old }
+    ensures out_after { out.new ≡ ctx8_out (table kinds.now lefts.now rights.now groups.now count) (state_of state) res out.old }
 {
     let judged = checked_rungs::named(kinds, lefts, rights, groups, count, res);
     if let Done::Refused(r) = judged {

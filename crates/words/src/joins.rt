@@ -1,8 +1,8 @@
 // Words from records and streams: two words of one type as the next word, and a word read from a stream.
 ghost use Rattle.std.specs.Prelude.{◌≡◌};
 ghost use Rattle.meaning.specs.Tables.{table};
-ghost use Rattle.meaning.specs.Ladder.{record_of, stream-of};
-ghost use Rattle.meaning.specs.WordCalls.{joinCall, joinOut, wordReadCall, wordReadOut};
+ghost use Rattle.meaning.specs.Ladder.{record_of, stream_of};
+ghost use Rattle.meaning.specs.WordCalls.{join_call, join_out, word_read_call, word_read_out};
 ghost use Rattle.answers.specs.Verdicts.{count_of};
 
 use answers::{Count, Done};
@@ -23,8 +23,8 @@ pub fn word_product(
     res: usize,
     out: &mut [u8],
 ) -> Count
-    ensures result_value { count_of result ≡ joinCall (table kinds.now lefts.now rights.now groups.now count) (record_of a_bytes.now a_offset a_node) (record_of b_bytes.now b_offset b_node) res out.old }
-    ensures out_after { out.new ≡ joinOut (table kinds.now lefts.now rights.now groups.now count) (record_of a_bytes.now a_offset a_node) (record_of b_bytes.now b_offset b_node) res out.old }
+    ensures result_value { count_of result ≡ join_call (table kinds.now lefts.now rights.now groups.now count) (record_of a_bytes.now a_offset a_node) (record_of b_bytes.now b_offset b_node) res out.old }
+    ensures out_after { out.new ≡ join_out (table kinds.now lefts.now rights.now groups.now count) (record_of a_bytes.now a_offset a_node) (record_of b_bytes.now b_offset b_node) res out.old }
 {
     let judged = checked_rungs::two_to(
         kinds, lefts, rights, groups, count, a_bytes, a_offset, a_node, b_bytes, b_offset, b_node,
@@ -53,8 +53,8 @@ pub fn word_from_bits(
     node: usize,
     out: &mut [u8],
 ) -> Count
-    ensures result_value { count_of result ≡ wordReadCall (table kinds.now lefts.now rights.now groups.now count) (stream-of bytes.now until position) n node out.old }
-    ensures out_after { out.new ≡ wordReadOut (table kinds.now lefts.now rights.now groups.now count) (stream-of bytes.now until position) n node out.old }
+    ensures result_value { count_of result ≡ word_read_call (table kinds.now lefts.now rights.now groups.now count) (stream_of bytes.now until position) n node out.old }
+    ensures out_after { out.new ≡ word_read_out (table kinds.now lefts.now rights.now groups.now count) (stream_of bytes.now until position) n node out.old }
 {
     let judged = checked_rungs::stream(
         kinds, lefts, rights, groups, count, bytes, until, position, node,

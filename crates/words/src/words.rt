@@ -3,7 +3,7 @@
 ghost use Rattle.std.specs.Prelude.{◌≡◌};
 ghost use Rattle.meaning.specs.Tables.{table};
 ghost use Rattle.meaning.specs.Words.{exponent};
-ghost use Rattle.meaning.specs.WordCalls.{numberCall, numberOut, bytesCall, bytesOut, arrayCall, arrayOut};
+ghost use Rattle.meaning.specs.WordCalls.{number_call, number_out, bytes_call, bytes_out, array_call, array_out};
 ghost use Rattle.answers.specs.Verdicts.{count_of};
 
 use answers::Count;
@@ -21,8 +21,8 @@ pub fn u1(
     res: usize,
     out: &mut [u8],
 ) -> Count
-    ensures result_value { count_of result ≡ numberCall (table kinds.now lefts.now rights.now groups.now count) 0 number res out.old }
-    ensures out_after { out.new ≡ numberOut (table kinds.now lefts.now rights.now groups.now count) 0 number res out.old }
+    ensures result_value { count_of result ≡ number_call (table kinds.now lefts.now rights.now groups.now count) 0 number res out.old }
+    ensures out_after { out.new ≡ number_out (table kinds.now lefts.now rights.now groups.now count) 0 number res out.old }
 {
     number_word(kinds, lefts, rights, groups, count, 0, number, res, out)
 }
@@ -38,8 +38,8 @@ pub fn u2(
     res: usize,
     out: &mut [u8],
 ) -> Count
-    ensures result_value { count_of result ≡ numberCall (table kinds.now lefts.now rights.now groups.now count) 1 number res out.old }
-    ensures out_after { out.new ≡ numberOut (table kinds.now lefts.now rights.now groups.now count) 1 number res out.old }
+    ensures result_value { count_of result ≡ number_call (table kinds.now lefts.now rights.now groups.now count) 1 number res out.old }
+    ensures out_after { out.new ≡ number_out (table kinds.now lefts.now rights.now groups.now count) 1 number res out.old }
 {
     number_word(kinds, lefts, rights, groups, count, 1, number, res, out)
 }
@@ -55,8 +55,8 @@ pub fn u4(
     res: usize,
     out: &mut [u8],
 ) -> Count
-    ensures result_value { count_of result ≡ numberCall (table kinds.now lefts.now rights.now groups.now count) 2 number res out.old }
-    ensures out_after { out.new ≡ numberOut (table kinds.now lefts.now rights.now groups.now count) 2 number res out.old }
+    ensures result_value { count_of result ≡ number_call (table kinds.now lefts.now rights.now groups.now count) 2 number res out.old }
+    ensures out_after { out.new ≡ number_out (table kinds.now lefts.now rights.now groups.now count) 2 number res out.old }
 {
     number_word(kinds, lefts, rights, groups, count, 2, number, res, out)
 }
@@ -72,8 +72,8 @@ pub fn u8(
     res: usize,
     out: &mut [u8],
 ) -> Count
-    ensures result_value { count_of result ≡ bytesCall (table kinds.now lefts.now rights.now groups.now count) 3 bytes.now res out.old }
-    ensures out_after { out.new ≡ bytesOut (table kinds.now lefts.now rights.now groups.now count) 3 bytes.now res out.old }
+    ensures result_value { count_of result ≡ bytes_call (table kinds.now lefts.now rights.now groups.now count) 3 bytes.now res out.old }
+    ensures out_after { out.new ≡ bytes_out (table kinds.now lefts.now rights.now groups.now count) 3 bytes.now res out.old }
 {
     fixed_word(kinds, lefts, rights, groups, count, 3, bytes, res, out)
 }
@@ -89,8 +89,8 @@ pub fn u16(
     res: usize,
     out: &mut [u8],
 ) -> Count
-    ensures result_value { count_of result ≡ bytesCall (table kinds.now lefts.now rights.now groups.now count) 4 bytes.now res out.old }
-    ensures out_after { out.new ≡ bytesOut (table kinds.now lefts.now rights.now groups.now count) 4 bytes.now res out.old }
+    ensures result_value { count_of result ≡ bytes_call (table kinds.now lefts.now rights.now groups.now count) 4 bytes.now res out.old }
+    ensures out_after { out.new ≡ bytes_out (table kinds.now lefts.now rights.now groups.now count) 4 bytes.now res out.old }
 {
     fixed_word(kinds, lefts, rights, groups, count, 4, bytes, res, out)
 }
@@ -106,8 +106,8 @@ pub fn u32(
     res: usize,
     out: &mut [u8],
 ) -> Count
-    ensures result_value { count_of result ≡ bytesCall (table kinds.now lefts.now rights.now groups.now count) 5 bytes.now res out.old }
-    ensures out_after { out.new ≡ bytesOut (table kinds.now lefts.now rights.now groups.now count) 5 bytes.now res out.old }
+    ensures result_value { count_of result ≡ bytes_call (table kinds.now lefts.now rights.now groups.now count) 5 bytes.now res out.old }
+    ensures out_after { out.new ≡ bytes_out (table kinds.now lefts.now rights.now groups.now count) 5 bytes.now res out.old }
 {
     fixed_word(kinds, lefts, rights, groups, count, 5, bytes, res, out)
 }
@@ -123,8 +123,8 @@ pub fn u64(
     res: usize,
     out: &mut [u8],
 ) -> Count
-    ensures result_value { count_of result ≡ bytesCall (table kinds.now lefts.now rights.now groups.now count) 6 bytes.now res out.old }
-    ensures out_after { out.new ≡ bytesOut (table kinds.now lefts.now rights.now groups.now count) 6 bytes.now res out.old }
+    ensures result_value { count_of result ≡ bytes_call (table kinds.now lefts.now rights.now groups.now count) 6 bytes.now res out.old }
+    ensures out_after { out.new ≡ bytes_out (table kinds.now lefts.now rights.now groups.now count) 6 bytes.now res out.old }
 {
     fixed_word(kinds, lefts, rights, groups, count, 6, bytes, res, out)
 }
@@ -140,8 +140,8 @@ pub fn u128(
     res: usize,
     out: &mut [u8],
 ) -> Count
-    ensures result_value { count_of result ≡ bytesCall (table kinds.now lefts.now rights.now groups.now count) 7 bytes.now res out.old }
-    ensures out_after { out.new ≡ bytesOut (table kinds.now lefts.now rights.now groups.now count) 7 bytes.now res out.old }
+    ensures result_value { count_of result ≡ bytes_call (table kinds.now lefts.now rights.now groups.now count) 7 bytes.now res out.old }
+    ensures out_after { out.new ≡ bytes_out (table kinds.now lefts.now rights.now groups.now count) 7 bytes.now res out.old }
 {
     fixed_word(kinds, lefts, rights, groups, count, 7, bytes, res, out)
 }
@@ -157,8 +157,8 @@ pub fn u256(
     res: usize,
     out: &mut [u8],
 ) -> Count
-    ensures result_value { count_of result ≡ bytesCall (table kinds.now lefts.now rights.now groups.now count) 8 bytes.now res out.old }
-    ensures out_after { out.new ≡ bytesOut (table kinds.now lefts.now rights.now groups.now count) 8 bytes.now res out.old }
+    ensures result_value { count_of result ≡ bytes_call (table kinds.now lefts.now rights.now groups.now count) 8 bytes.now res out.old }
+    ensures out_after { out.new ≡ bytes_out (table kinds.now lefts.now rights.now groups.now count) 8 bytes.now res out.old }
 {
     fixed_word(kinds, lefts, rights, groups, count, 8, bytes, res, out)
 }
@@ -174,8 +174,8 @@ pub fn u512(
     res: usize,
     out: &mut [u8],
 ) -> Count
-    ensures result_value { count_of result ≡ bytesCall (table kinds.now lefts.now rights.now groups.now count) 9 bytes.now res out.old }
-    ensures out_after { out.new ≡ bytesOut (table kinds.now lefts.now rights.now groups.now count) 9 bytes.now res out.old }
+    ensures result_value { count_of result ≡ bytes_call (table kinds.now lefts.now rights.now groups.now count) 9 bytes.now res out.old }
+    ensures out_after { out.new ≡ bytes_out (table kinds.now lefts.now rights.now groups.now count) 9 bytes.now res out.old }
 {
     fixed_word(kinds, lefts, rights, groups, count, 9, bytes, res, out)
 }
@@ -209,8 +209,8 @@ pub fn from_byte_array(
     res: usize,
     out: &mut [u8],
 ) -> Count
-    ensures result_value { count_of result ≡ arrayCall (table kinds.now lefts.now rights.now groups.now count) bytes.now res out.old }
-    ensures out_after { out.new ≡ arrayOut (table kinds.now lefts.now rights.now groups.now count) bytes.now res out.old }
+    ensures result_value { count_of result ≡ array_call (table kinds.now lefts.now rights.now groups.now count) bytes.now res out.old }
+    ensures out_after { out.new ≡ array_out (table kinds.now lefts.now rights.now groups.now count) bytes.now res out.old }
 {
     let k = exponent_of(bytes.len());
     bytes_word(

@@ -2,7 +2,7 @@
 // Inner: a public call has checked the table and the result's node.
 ghost use Rattle.std.specs.Prelude.{◌≡◌};
 ghost use Rattle.meaning.specs.Tables.{table};
-ghost use Rattle.meaning.specs.WordCalls.{buffer_call, bufferOut};
+ghost use Rattle.meaning.specs.WordCalls.{buffer_call, buffer_out};
 ghost use Rattle.answers.specs.Verdicts.{count_of};
 ghost use Rattle.checked.specs.Passed.{Named};
 
@@ -23,7 +23,7 @@ pub fn make_buffer(
 ) -> Count
     requires { Named (table kinds.now lefts.now rights.now groups.now count) res }
     ensures result_value { count_of result ≡ buffer_call (table kinds.now lefts.now rights.now groups.now count) n «data».now res out.old }
-    ensures out_after { out.new ≡ bufferOut (table kinds.now lefts.now rights.now groups.now count) n «data».now res out.old }
+    ensures out_after { out.new ≡ buffer_out (table kinds.now lefts.now rights.now groups.now count) n «data».now res out.old }
 {
     if 13 <= n {
         return Count::Refused(answers::OUT_OF_RANGE);

@@ -3,9 +3,9 @@
 ghost use Rattle.std.specs.Prelude.{◌≡◌, true, ◌*◌, ◌^◌, ◌<◌, ◌≤◌, length};
 ghost use Rattle.meaning.specs.Tables.{table};
 ghost use Rattle.meaning.specs.Bits.{bits_of};
-ghost use Rattle.meaning.specs.Words.{isWord};
+ghost use Rattle.meaning.specs.Words.{is_word};
 ghost use Rattle.meaning.specs.Ladder.{type_at, makes, made};
-ghost use Rattle.meaning.specs.WordCalls.{fromRange, bytesCall, bytesOut};
+ghost use Rattle.meaning.specs.WordCalls.{from_range, bytes_call, bytes_out};
 ghost use Rattle.answers.specs.Verdicts.{count_of};
 
 use answers::{Count, Done};
@@ -25,8 +25,8 @@ pub fn bytes_word(
     out: &mut [u8],
 ) -> Count
     requires { fits ≡ true → 8 * length bytes.now ≡ 2 ^ n }
-    ensures result_value { count_of result ≡ makes (fromRange (table kinds.now lefts.now rights.now groups.now count) res fits (isWord n (type_at (table kinds.now lefts.now rights.now groups.now count) res))) (bits_of bytes.now) out.old }
-    ensures out_after { out.new ≡ made (fromRange (table kinds.now lefts.now rights.now groups.now count) res fits (isWord n (type_at (table kinds.now lefts.now rights.now groups.now count) res))) (bits_of bytes.now) out.old }
+    ensures result_value { count_of result ≡ makes (from_range (table kinds.now lefts.now rights.now groups.now count) res fits (is_word n (type_at (table kinds.now lefts.now rights.now groups.now count) res))) (bits_of bytes.now) out.old }
+    ensures out_after { out.new ≡ made (from_range (table kinds.now lefts.now rights.now groups.now count) res fits (is_word n (type_at (table kinds.now lefts.now rights.now groups.now count) res))) (bits_of bytes.now) out.old }
 {
     let judged = checked_rungs::named(kinds, lefts, rights, groups, count, res);
     if let Done::Refused(r) = judged {
@@ -60,8 +60,8 @@ pub fn fixed_word(
 ) -> Count
     requires le_n { 3 ≤ n }
     requires n_bound { n < 32 }
-    ensures result_value { count_of result ≡ bytesCall (table kinds.now lefts.now rights.now groups.now count) n bytes.now res out.old }
-    ensures out_after { out.new ≡ bytesOut (table kinds.now lefts.now rights.now groups.now count) n bytes.now res out.old }
+    ensures result_value { count_of result ≡ bytes_call (table kinds.now lefts.now rights.now groups.now count) n bytes.now res out.old }
+    ensures out_after { out.new ≡ bytes_out (table kinds.now lefts.now rights.now groups.now count) n bytes.now res out.old }
 {
     let asked = shapes::word_width(n - 3) as usize;
     bytes_word(

@@ -5,7 +5,7 @@ ghost use Rattle.meaning.specs.Types.{bits};
 ghost use Rattle.meaning.specs.Tables.{table};
 ghost use Rattle.meaning.specs.Words.{joins};
 ghost use Rattle.meaning.specs.Ladder.{record_of, type_at};
-ghost use Rattle.meaning.specs.WordCalls.{joinCall, joinOut};
+ghost use Rattle.meaning.specs.WordCalls.{join_call, join_out};
 ghost use Rattle.answers.specs.Verdicts.{count_of};
 ghost use Rattle.checked.specs.Passed.{Named, Held};
 
@@ -59,8 +59,8 @@ pub fn join_words(
     requires held { Held (table kinds.now lefts.now rights.now groups.now count) (record_of a_bytes.now a_offset a_node) }
     requires held_2 { Held (table kinds.now lefts.now rights.now groups.now count) (record_of b_bytes.now b_offset b_node) }
     requires named { Named (table kinds.now lefts.now rights.now groups.now count) res }
-    ensures result_value { count_of result ≡ joinCall (table kinds.now lefts.now rights.now groups.now count) (record_of a_bytes.now a_offset a_node) (record_of b_bytes.now b_offset b_node) res out.old }
-    ensures out_after { out.new ≡ joinOut (table kinds.now lefts.now rights.now groups.now count) (record_of a_bytes.now a_offset a_node) (record_of b_bytes.now b_offset b_node) res out.old }
+    ensures result_value { count_of result ≡ join_call (table kinds.now lefts.now rights.now groups.now count) (record_of a_bytes.now a_offset a_node) (record_of b_bytes.now b_offset b_node) res out.old }
+    ensures out_after { out.new ≡ join_out (table kinds.now lefts.now rights.now groups.now count) (record_of a_bytes.now a_offset a_node) (record_of b_bytes.now b_offset b_node) res out.old }
 {
     let half = half_of(kinds, lefts, rights, groups, count, a_node, b_node, res);
     if half == 0 {

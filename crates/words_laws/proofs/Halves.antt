@@ -1,7 +1,7 @@
 -- The halves of a join, seen by `as_product`, are the two words.
 --
 --   places                      an answer of `as_product`
---   Halves join-halves          where the two words of `word_product` are seen, their types and their bits
+--   Halves join_halves          where the two words of `word_product` are seen, their types and their bits
 -- Assumes nothing.
 use Prim.Native.Nat.{ℕ, ◌+◌, ◌*◌, ◌≤◌}
 use mathlib.Core.Path.{◌≡◌, sym, ap, ap₂, ◌∙◌}
@@ -13,18 +13,18 @@ use lib.Seq.{take_at, drop_at}
 use Rattle.meaning.specs.Types.{prod, bits, top}
 use Rattle.meaning.specs.Tables.{Table, left, right}
 use Rattle.meaning.specs.Words.{joins}
-use Rattle.meaning.specs.Ladder.{accepted, Rung, ladder, Record, record_of, type_at, type_of, recordBits}
-use Rattle.meaning.specs.RecordCalls.{handed, asProductCall, Spots, productBits}
-use Rattle.meaning.specs.WordCalls.{joinCall, joinOut, joinRungs}
-use Rattle.meaning.proofs.Records.{bits-prod}
+use Rattle.meaning.specs.Ladder.{accepted, Rung, ladder, Record, record_of, type_at, type_of, record_bits}
+use Rattle.meaning.specs.RecordCalls.{handed, as_product_call, Spots, product_bits}
+use Rattle.meaning.specs.WordCalls.{join_call, join_out, join_rungs}
+use Rattle.meaning.proofs.Records.{bits_prod}
 use Rattle.checked.specs.Passed.{Named}
-use Rattle.checked.proofs.Passed.{handed-passed}
-use Rattle.checked.proofs.Made.{Accepted, accepts, made-length, made-record}
-use Rattle.checked.proofs.Shaped.{shape-accepted}
-use Rattle.checked.proofs.SideTypes.{prod-sides}
-use Rattle.bits.proofs.Lent.{record-length}
-use Rattle.words_laws.proofs.Joins.{join-types}
-use Rattle.words_laws.proofs.Views.{product-seen, left-bits, right-bits}
+use Rattle.checked.proofs.Passed.{handed_passed}
+use Rattle.checked.proofs.Made.{Accepted, accepts, made_length, made_record}
+use Rattle.checked.proofs.Shaped.{shape_accepted}
+use Rattle.checked.proofs.SideTypes.{prod_sides}
+use Rattle.bits.proofs.Lent.{record_length}
+use Rattle.words_laws.proofs.Joins.{join_types}
+use Rattle.words_laws.proofs.Views.{product_seen, left-bits, right-bits}
 
 -- The answer of `as_product`: two places.
 abbrev pub places : ℕ → ℕ → ℕ → ℕ → Spots
@@ -32,58 +32,58 @@ places o n p m = record { first = record { offset = o; node = n }; second = reco
 
 -- Two records seen in a third: where they are, their types and their bits.
 pub record Halves (t : Table) (a b : Record) (result : ℕ) (new : List ℕ) : Type 0 where
-  pub seen : asProductCall t (record_of new 0 result)
+  pub seen : as_product_call t (record_of new 0 result)
       ≡ accepted (places 0 (left t.columns result) (0 + bits (type_of t a)) (right t.columns result))
-  pub first-type : type_at t (left t.columns result) ≡ type_of t a
+  pub first_type : type_at t (left t.columns result) ≡ type_of t a
   pub second_type : type_at t (right t.columns result) ≡ type_of t b
-  pub first-bits : recordBits t (record_of new 0 (left t.columns result)) ≡ recordBits t a
-  pub second-bits : recordBits t (record_of new (0 + bits (type_of t a)) (right t.columns result)) ≡ recordBits t b
+  pub first_bits : record_bits t (record_of new 0 (left t.columns result)) ≡ record_bits t a
+  pub second_bits : record_bits t (record_of new (0 + bits (type_of t a)) (right t.columns result)) ≡ record_bits t b
 
-pub join-halves : (t : Table) (a b : Record) (result : ℕ) (out : List ℕ) (w : ℕ) → joinCall t a b result out ≡ accepted w
-    → Halves t a b result (joinOut t a b result out)
-join-halves t a b result out w h =
+pub join_halves : (t : Table) (a b : Record) (result : ℕ) (out : List ℕ) (w : ℕ) → join_call t a b result out ≡ accepted w
+    → Halves t a b result (join_out t a b result out)
+join_halves t a b result out w h =
     record {
-      seen = product-seen t result whole (type_of t a) (type_of t b) type (joinOut t a b result out) 0 ends low;
-      first-type = (prod-sides t result whole (type_of t a) (type_of t b) type).0;
-      second_type = (prod-sides t result whole (type_of t a) (type_of t b) type).1;
-      first-bits =
-          left-bits t result whole (type_of t a) (type_of t b) type (joinOut t a b result out) 0 ends low
+      seen = product_seen t result whole (type_of t a) (type_of t b) type (join_out t a b result out) 0 ends low;
+      first_type = (prod_sides t result whole (type_of t a) (type_of t b) type).0;
+      second_type = (prod_sides t result whole (type_of t a) (type_of t b) type).1;
+      first_bits =
+          left-bits t result whole (type_of t a) (type_of t b) type (join_out t a b result out) 0 ends low
           ∙ ap (take (bits (type_of t a))) record_is
-          ∙ take_at (recordBits t a) (recordBits t b) (bits (type_of t a)) length-a;
-      second-bits =
-          right-bits t result whole (type_of t a) (type_of t b) type (joinOut t a b result out) 0 ends low
+          ∙ take_at (record_bits t a) (record_bits t b) (bits (type_of t a)) length_a;
+      second_bits =
+          right-bits t result whole (type_of t a) (type_of t b) type (join_out t a b result out) 0 ends low
           ∙ ap (drop (bits (type_of t a))) record_is
-          ∙ drop_at (recordBits t a) (recordBits t b) (bits (type_of t a)) length-a;
+          ∙ drop_at (record_bits t a) (record_bits t b) (bits (type_of t a)) length_a;
     }
   where
     first : List Rung
     first = handed t (a ∷ b ∷ []) (result ∷ [])
 
-    did : Accepted (joinRungs t a b result) (productBits t a b) out w
-    did = accepts (joinRungs t a b result) (productBits t a b) out w h
+    did : Accepted (join_rungs t a b result) (product_bits t a b) out w
+    did = accepts (join_rungs t a b result) (product_bits t a b) out w h
 
     passed : (ladder first (tt {0}) ≡ accepted (tt {0})) × (joins (type_of t a) (type_of t b) (type_at t result) ≡ true)
-    passed = shape-accepted first (joins (type_of t a) (type_of t b) (type_at t result)) did.clear
+    passed = shape_accepted first (joins (type_of t a) (type_of t b) (type_at t result)) did.clear
 
     whole : Named t result
-    whole = (handed-passed t (a ∷ b ∷ []) (result ∷ []) passed.0).1.0
+    whole = (handed_passed t (a ∷ b ∷ []) (result ∷ []) passed.0).1.0
 
     type : type_at t result ≡ prod (type_of t a) (type_of t b)
-    type = (join-types (type_of t a) (type_of t b) (type_at t result) passed.1).1
+    type = (join_types (type_of t a) (type_of t b) (type_at t result) passed.1).1
 
-    length-a : length (recordBits t a) ≡ bits (type_of t a)
-    length-a = record-length t a (handed-passed t (a ∷ b ∷ []) (result ∷ []) passed.0).0.0.ends
+    length_a : length (record_bits t a) ≡ bits (type_of t a)
+    length_a = record_length t a (handed_passed t (a ∷ b ∷ []) (result ∷ []) passed.0).0.0.ends
 
-    length-b : length (recordBits t b) ≡ bits (type_of t b)
-    length-b = record-length t b (handed-passed t (a ∷ b ∷ []) (result ∷ []) passed.0).0.1.0.ends
+    length_b : length (record_bits t b) ≡ bits (type_of t b)
+    length_b = record_length t b (handed_passed t (a ∷ b ∷ []) (result ∷ []) passed.0).0.1.0.ends
 
-    wide : bits (type_at t result) ≡ length (productBits t a b)
+    wide : bits (type_at t result) ≡ length (product_bits t a b)
     wide =
-        ap bits type ∙ bits-prod (type_of t a) (type_of t b) ∙ sym (length-append (recordBits t a) (recordBits t b) ∙ ap₂ ◌+◌ length-a length-b)
+        ap bits type ∙ bits_prod (type_of t a) (type_of t b) ∙ sym (length-append (record_bits t a) (record_bits t b) ∙ ap₂ ◌+◌ length_a length_b)
 
-    ends : 0 + bits (type_at t result) ≤ 8 * length (joinOut t a b result out)
+    ends : 0 + bits (type_at t result) ≤ 8 * length (join_out t a b result out)
     ends =
-        let l = made-length (joinRungs t a b result) (productBits t a b) out w h in
+        let l = made_length (join_rungs t a b result) (product_bits t a b) out w h in
         let e = wide in
         let r = did.roomy in
         omega arith
@@ -91,5 +91,5 @@ join-halves t a b result out w h =
     low : 0 + bits (type_at t result) ≤ top
     low = let n = whole.narrow in omega arith
 
-    record_is : recordBits t (record_of (joinOut t a b result out) 0 result) ≡ recordBits t a ++ recordBits t b
-    record_is = made-record t result (joinRungs t a b result) (productBits t a b) out w h wide
+    record_is : record_bits t (record_of (join_out t a b result out) 0 result) ≡ record_bits t a ++ record_bits t b
+    record_is = made_record t result (join_rungs t a b result) (product_bits t a b) out w h wide

@@ -3,7 +3,7 @@
 ghost use Rattle.std.specs.Prelude.{◌≡◌, ◌<◌, ◌≤◌};
 ghost use Rattle.meaning.specs.Tables.{table};
 ghost use Rattle.meaning.specs.Bits.{to_bits, written};
-ghost use Rattle.meaning.specs.WordCalls.{numberCall, numberOut};
+ghost use Rattle.meaning.specs.WordCalls.{number_call, number_out};
 ghost use Rattle.answers.specs.Verdicts.{count_of};
 ghost use Rattle.bits.specs.Runs.{Run};
 
@@ -32,8 +32,8 @@ pub fn number_word(
     out: &mut [u8],
 ) -> Count
     requires { n < 3 }
-    ensures result_value { count_of result ≡ numberCall (table kinds.now lefts.now rights.now groups.now count) n number res out.old }
-    ensures out_after { out.new ≡ numberOut (table kinds.now lefts.now rights.now groups.now count) n number res out.old }
+    ensures result_value { count_of result ≡ number_call (table kinds.now lefts.now rights.now groups.now count) n number res out.old }
+    ensures out_after { out.new ≡ number_out (table kinds.now lefts.now rights.now groups.now count) n number res out.old }
 {
     let judged = checked_rungs::named(kinds, lefts, rights, groups, count, res);
     if let Done::Refused(r) = judged {

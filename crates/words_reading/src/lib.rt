@@ -2,8 +2,8 @@
 // Inner: a public call has checked the table, the stream and the node.
 ghost use Rattle.std.specs.Prelude.{◌≡◌};
 ghost use Rattle.meaning.specs.Tables.{table};
-ghost use Rattle.meaning.specs.Ladder.{stream-of};
-ghost use Rattle.meaning.specs.WordCalls.{wordReadCall, wordReadOut};
+ghost use Rattle.meaning.specs.Ladder.{stream_of};
+ghost use Rattle.meaning.specs.WordCalls.{word_read_call, word_read_out};
 ghost use Rattle.answers.specs.Verdicts.{count_of};
 ghost use Rattle.checked.specs.Passed.{Streamed};
 
@@ -23,9 +23,9 @@ pub fn read_word(
     node: usize,
     out: &mut [u8],
 ) -> Count
-    requires { Streamed (table kinds.now lefts.now rights.now groups.now count) (stream-of bytes.now until position) node }
-    ensures result_value { count_of result ≡ wordReadCall (table kinds.now lefts.now rights.now groups.now count) (stream-of bytes.now until position) n node out.old }
-    ensures out_after { out.new ≡ wordReadOut (table kinds.now lefts.now rights.now groups.now count) (stream-of bytes.now until position) n node out.old }
+    requires { Streamed (table kinds.now lefts.now rights.now groups.now count) (stream_of bytes.now until position) node }
+    ensures result_value { count_of result ≡ word_read_call (table kinds.now lefts.now rights.now groups.now count) (stream_of bytes.now until position) n node out.old }
+    ensures out_after { out.new ≡ word_read_out (table kinds.now lefts.now rights.now groups.now count) (stream_of bytes.now until position) n node out.old }
 {
     if 32 <= n {
         return Count::Refused(answers::OUT_OF_RANGE);

@@ -3,8 +3,8 @@
 ghost use Rattle.std.specs.Prelude.{◌≡◌, ◌≤◌, length};
 ghost use Rattle.meaning.specs.Tables.{table};
 ghost use Rattle.meaning.specs.Bits.{written};
-ghost use Rattle.meaning.specs.Words.{ctx8Bits};
-ghost use Rattle.meaning.specs.WordCalls.{ctx8Call, ctx8Out};
+ghost use Rattle.meaning.specs.Words.{ctx8_bits};
+ghost use Rattle.meaning.specs.WordCalls.{ctx8_call, ctx8_out};
 ghost use Rattle.answers.specs.Verdicts.{count_of};
 ghost use Rattle.checked.specs.Passed.{Named};
 ghost use Rattle.words_states.specs.State.{state_of};
@@ -25,7 +25,7 @@ pub struct HashState {
 fn write_state(out: &mut [u8], state: HashState)
     requires used_bound { state.used ≤ 63 }
     requires in_bounds { 104 ≤ length out.old }
-    ensures { out.new ≡ written (ctx8Bits (state_of state)) out.old }
+    ensures { out.new ≡ written (ctx8_bits (state_of state)) out.old }
 {
     let buffer = state.buffer;
     let used = state.used;
@@ -48,8 +48,8 @@ pub fn make_state(
     out: &mut [u8],
 ) -> Count
     requires { Named (table kinds.now lefts.now rights.now groups.now count) res }
-    ensures result_value { count_of result ≡ ctx8Call (table kinds.now lefts.now rights.now groups.now count) (state_of state) res out.old }
-    ensures out_after { out.new ≡ ctx8Out (table kinds.now lefts.now rights.now groups.now count) (state_of state) res out.old }
+    ensures result_value { count_of result ≡ ctx8_call (table kinds.now lefts.now rights.now groups.now count) (state_of state) res out.old }
+    ensures out_after { out.new ≡ ctx8_out (table kinds.now lefts.now rights.now groups.now count) (state_of state) res out.old }
 {
     let used = state.used;
     if 63 < used {

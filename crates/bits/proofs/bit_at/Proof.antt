@@ -1,8 +1,8 @@
--- `bits::bit_at` meets its contract: the bit that the shift brings down is the one that `getD-bitsOf` names. Assumes nothing.
+-- `bits::bit_at` meets its contract: the bit that the shift brings down is the one that `get_d_bits_of` names. Assumes nothing.
 use mathlib.Core.Path.{sym}
 use borrow.Author.Rules.{rules}
 use Rattle.meaning.specs.Bits.{odd}
-use Rattle.bits.proofs.OfBytes.{getD-bitsOf}
+use Rattle.bits.proofs.OfBytes.{get_d_bits_of}
 use Rattle.bits.proofs.bit_at.Statement.{statement}
 use Rattle.bits.proofs.bit_at.Tie as tie
 
@@ -20,8 +20,8 @@ shr-result c = search rules
 
 returns : tie.Need-returns
 unfolding odd
-returns c = let a = c.before.args in sym (getD-bitsOf a.s.now a.at)
+returns c = let a = c.before.args in sym (get_d_bits_of a.s.now a.at)
 
-pub bit-at-spec : {M : Type 1} → statement M
-bit-at-spec =
+pub bit_at_spec : {M : Type 1} → statement M
+bit_at_spec =
     tie.close (tie.spec shared-slice-read-result sub-result cast-result shr-result returns)

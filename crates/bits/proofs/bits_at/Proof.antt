@@ -8,7 +8,7 @@ use lib.Pow.{pow_pos}
 use lib.Seq.{take-take}
 use borrow.Author.Rules.{rules}
 use Rattle.meaning.specs.Bits.{bits_of, to_bits}
-use Rattle.bits.proofs.Parts.{toBits-top, top_below, byte-shifted, two_bytes}
+use Rattle.bits.proofs.Parts.{to_bits_top, top_below, byte_shifted, two_bytes}
 use Rattle.bits.proofs.bits_at.Statement.{statement}
 use Rattle.bits.proofs.bits_at.Tie as tie
 
@@ -43,7 +43,7 @@ shr-result c = search rules
 returns-2 : tie.Need-returns-2
 returns-2 c =
     let a = c.before.before.before.before.args in (
-      byte-shifted a.s.now a.at a.n c.before.if2.true (search rules),
+      byte_shifted a.s.now a.at a.n c.before.if2.true (search rules),
       top_below a.n (get_or a.s.now (a.at / 8) 0 * 2 ^ (a.at % 8) % 256) c.before.before.before.before.requires.0 (mod-lt _ (search rules)),
     )
 
@@ -72,14 +72,14 @@ returns-3 : tie.Need-returns-3
 returns-3 c =
     let a = c.before.before.before.before.before.before.args in
     let short = c.before.before.before.before.before.before.requires.0 in (
-      toBits-top a.n c.straddling.result short
+      to_bits_top a.n c.straddling.result short
           ∙ ap (take a.n) (c.straddling.ensures ∙ sym (two_bytes a.s.now a.at (search rules)))
           ∙ take-take a.n 8 (drop a.at (bits_of a.s.now)) short,
       top_below a.n c.straddling.result short (search rules),
     )
 
-pub bits-at-spec : {M : Type 1} → statement M
-bits-at-spec =
+pub bits_at_spec : {M : Type 1} → statement M
+bits_at_spec =
     tie.close
     (tie.spec
     returns

@@ -6,7 +6,7 @@ use lib.ListN.{drop}
 use lib.Seq.{paste}
 use borrow.Author.Rules.{rules}
 use Rattle.meaning.specs.Bits.{bits_of}
-use Rattle.meaning.proofs.Pasted.{paste-take}
+use Rattle.meaning.proofs.Pasted.{paste_take}
 use Rattle.bits.proofs.copy_some.Statement.{statement}
 use Rattle.bits.proofs.copy_some.Tie as tie
 
@@ -24,7 +24,7 @@ returns c =
     let a = c.before.before.before.before.before.before.before.args in
     c.before.before.put_some_lem.ensures
     ∙ ap (λ (v : List Bool). paste (bits_of a.dst.now) a.at v a.n) c.before.before.before.bits_at.ensures.0
-    ∙ paste-take (bits_of a.dst.now) a.at (drop a.from (bits_of a.src.now)) a.n
+    ∙ paste_take (bits_of a.dst.now) a.at (drop a.from (bits_of a.src.now)) a.n
 
-pub copy-some-spec : {M : Type 1} → statement M
-copy-some-spec = tie.close (tie.spec bits-at-requires put-some-requires same_length returns)
+pub copy_some_spec : {M : Type 1} → statement M
+copy_some_spec = tie.close (tie.spec bits-at-requires put-some-requires same_length returns)

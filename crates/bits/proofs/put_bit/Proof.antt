@@ -5,7 +5,7 @@ use native.Mathlib.Omega.{arith}
 use lib.ListN.{set, get_or}
 use borrow.Author.Rules.{rules}
 use Rattle.meaning.specs.Bits.{to_bits}
-use Rattle.bits.proofs.OfBytes.{set-bitsOf}
+use Rattle.bits.proofs.OfBytes.{set_bits_of}
 use Rattle.bits.proofs.put_bit.Statement.{statement}
 use Rattle.bits.proofs.put_bit.Tie as tie
 
@@ -28,10 +28,10 @@ returns : tie.Need-returns
 returns c =
     let a = c.before.before.before.args in
     let k : 7 - (7 - a.at % 8) ≡ a.at % 8 = omega arith in
-    set-bitsOf a.d.now a.at c.with-bit.result a.b c.before.before.before.requires
+    set_bits_of a.d.now a.at c.with-bit.result a.b c.before.before.before.requires
     (c.with-bit.ensures ∙ ap (λ (j : ℕ). set (to_bits 8 (get_or a.d.now (a.at / 8) 0)) j a.b) k)
 
-pub put-bit-spec : {M : Type 1} → statement M
-put-bit-spec =
+pub put_bit_spec : {M : Type 1} → statement M
+put_bit_spec =
     tie.close
     (tie.spec slice-read-with-bit sub-with-bit with-bit-requires slice-write-d same_length returns)

@@ -6,7 +6,7 @@ use lib.ListN.{get_or}
 use lib.Seq.{paste, paste-zero}
 use borrow.Author.Rules.{rules}
 use Rattle.meaning.specs.Bits.{bits_of, to_bits}
-use Rattle.bits.proofs.Stores.{set-part}
+use Rattle.bits.proofs.Stores.{set_part}
 use Rattle.bits.proofs.put_some.Statement.{statement}
 use Rattle.bits.proofs.put_some.Tie as tie
 
@@ -41,13 +41,13 @@ returns-2 c =
     let within = c.before.before.before.before.requires.0 in
     let place : 8 - (a.n + (8 - a.at % 8 - a.n)) ≡ a.at % 8 = omega arith in
     let all : 8 * (a.at / 8) + a.at % 8 ≡ a.at = omega arith in
-    set-part a.d.now (a.at / 8) (a.at % 8) a.n c.with-bits.result (to_bits a.n a.x) (search rules) within
+    set_part a.d.now (a.at / 8) (a.at % 8) a.n c.with-bits.result (to_bits a.n a.x) (search rules) within
     (c.with-bits.ensures
     ∙ ap (λ (j : ℕ). paste (to_bits 8 (get_or a.d.now (a.at / 8) 0)) j (to_bits a.n a.x) a.n) place)
     ∙ ap (λ (k : ℕ). paste (bits_of a.d.now) k (to_bits a.n a.x) a.n) all
 
-pub put-some-spec : {M : Type 1} → statement M
-put-some-spec =
+pub put_some_spec : {M : Type 1} → statement M
+put_some_spec =
     tie.close
     (tie.spec
     returns

@@ -6,7 +6,7 @@ use native.Mathlib.Omega.{arith}
 use lib.Pow.{shr_lt}
 use borrow.Author.Rules.{rules}
 use Rattle.meaning.specs.Bits.{to_bits}
-use Rattle.bits.proofs.Parts.{toBits-shifted, shifted-below}
+use Rattle.bits.proofs.Parts.{to_bits_shifted, shifted_below}
 use Rattle.bits.proofs.straddling.Statement.{statement}
 use Rattle.bits.proofs.straddling.Tie as tie
 
@@ -20,12 +20,12 @@ module _ (a b k : ℕ) (hb : b < 256) (hk : k < 8) where
   fits : a * 2 ^ k % 256 + b / 2 ^ (8 - k) < 256
   fits =
       subst (λ (i : ℕ). a * 2 ^ k % 2 ^ i + b / 2 ^ (8 - k) < 2 ^ i) eight
-      (shifted-below (8 - k) k a (b / 2 ^ (8 - k)) top)
+      (shifted_below (8 - k) k a (b / 2 ^ (8 - k)) top)
 
   right : to_bits 8 (a * 2 ^ k % 256 + b / 2 ^ (8 - k)) ≡ to_bits (8 - k) a ++ to_bits k (b / 2 ^ (8 - k))
   right =
       subst (λ (i : ℕ). to_bits i (a * 2 ^ k % 2 ^ i + b / 2 ^ (8 - k)) ≡ to_bits (8 - k) a ++ to_bits k (b / 2 ^ (8 - k))) eight
-      (toBits-shifted (8 - k) k a (b / 2 ^ (8 - k)) top)
+      (to_bits_shifted (8 - k) k a (b / 2 ^ (8 - k)) top)
 
 cast-result : tie.Need-overflow-cast-result
 cast-result c = search rules
@@ -48,7 +48,7 @@ add-result c = let a = c.args in record { fits = fits a.a a.b a.skip c.ranges.b.
 returns : tie.Need-returns
 returns c = let a = c.args in right a.a a.b a.skip c.ranges.b.fits c.requires.1
 
-pub straddling-spec : {M : Type 1} → statement M
-straddling-spec =
+pub straddling_spec : {M : Type 1} → statement M
+straddling_spec =
     tie.close
     (tie.spec cast-result shl-result sub-result cast-result-2 shr-result add-result returns)

@@ -1,4 +1,4 @@
--- `bits::with_bits` meets its contract: no shift loses a bit, so the sum of the parts is the number of `toBits-replaced`. Assumes nothing.
+-- `bits::with_bits` meets its contract: no shift loses a bit, so the sum of the parts is the number of `to_bits_replaced`. Assumes nothing.
 use mathlib.Core.Path.{◌≡◌, sym, ap, ap₂, ◌∙◌, subst}
 use Prim.Native.Nat.{ℕ, ◌+◌, ◌-◌, ◌*◌, ◌/◌, ◌%◌, ◌^◌, ◌≤◌, ◌<◌}
 use native.Mathlib.Nat.{one-mul}
@@ -7,7 +7,7 @@ use lib.Pow.{pow_pos, pow_mono, shl_exact}
 use lib.Seq.{paste}
 use borrow.Author.Rules.{rules}
 use Rattle.meaning.specs.Bits.{to_bits}
-use Rattle.bits.proofs.Parts.{toBits-replaced, upper-below, joined-below, replaced-below}
+use Rattle.bits.proofs.Parts.{to_bits_replaced, upper_below, joined_below, replaced_below}
 use Rattle.bits.proofs.with_bits.Statement.{statement}
 use Rattle.bits.proofs.with_bits.Tie as tie
 
@@ -39,24 +39,24 @@ module _ (old x n k : ℕ) (fits : old < 256) (h : n + k ≤ 8) where
   joined_is : old / 2 ^ (n + k) * 2 ^ n % 2 ^ 64 + x % (1 * 2 ^ n % 2 ^ 64) ≡ joined
   joined_is =
       ap₂ (λ (y d : ℕ). y + x % d)
-      (shl_exact m n 64 (upper-below m n k old x wide) (omega arith))
+      (shl_exact m n 64 (upper_below m n k old x wide) (omega arith))
       (power n (omega arith))
 
-  joined-fits : joined < 256
-  joined-fits =
+  joined_fits : joined < 256
+  joined_fits =
       let l : m + n ≤ 8 = omega arith in
-      omega (arith, joined-below m n k old x wide, pow_mono {i = m + n} {j = 8} l)
+      omega (arith, joined_below m n k old x wide, pow_mono {i = m + n} {j = 8} l)
 
-  replaced-is : (old / 2 ^ (n + k) * 2 ^ n % 2 ^ 64 + x % (1 * 2 ^ n % 2 ^ 64)) * 2 ^ k % 2 ^ 64 + old % (1 * 2 ^ k % 2 ^ 64) ≡ replaced
-  replaced-is =
+  replaced_is : (old / 2 ^ (n + k) * 2 ^ n % 2 ^ 64 + x % (1 * 2 ^ n % 2 ^ 64)) * 2 ^ k % 2 ^ 64 + old % (1 * 2 ^ k % 2 ^ 64) ≡ replaced
+  replaced_is =
       ap₂ (λ (y d : ℕ). y * 2 ^ k % 2 ^ 64 + old % d) joined_is (power k (omega arith))
-      ∙ ap (λ (y : ℕ). y + old % 2 ^ k) (shl_exact (m + n) k 64 (joined-below m n k old x wide) (omega arith))
+      ∙ ap (λ (y : ℕ). y + old % 2 ^ k) (shl_exact (m + n) k 64 (joined_below m n k old x wide) (omega arith))
 
-  replaced-fits : replaced < 256
-  replaced-fits = subst (λ (i : ℕ). replaced < 2 ^ i) eight (replaced-below m n k old x wide)
+  replaced_fits : replaced < 256
+  replaced_fits = subst (λ (i : ℕ). replaced < 2 ^ i) eight (replaced_below m n k old x wide)
 
   right : to_bits 8 replaced ≡ paste (to_bits 8 old) m (to_bits n x) n
-  right = subst (λ (i : ℕ). to_bits i replaced ≡ paste (to_bits i old) m (to_bits n x) n) eight (toBits-replaced m n k old x)
+  right = subst (λ (i : ℕ). to_bits i replaced ≡ paste (to_bits i old) m (to_bits n x) n) eight (to_bits_replaced m n k old x)
 
 add-upper : tie.Need-overflow-add-upper
 add-upper c = search rules
@@ -85,7 +85,7 @@ add-result c =
     omega (
       arith,
       joined_is a.old a.x a.n a.below c.ranges.old.fits c.requires,
-      joined-fits a.old a.x a.n a.below c.ranges.old.fits c.requires,
+      joined_fits a.old a.x a.n a.below c.ranges.old.fits c.requires,
     )
 
 shl-result-2 : tie.Need-overflow-shl-result-2
@@ -96,8 +96,8 @@ add-result-2 c =
     let a = c.args in
     omega (
       arith,
-      replaced-is a.old a.x a.n a.below c.ranges.old.fits c.requires,
-      replaced-fits a.old a.x a.n a.below c.ranges.old.fits c.requires,
+      replaced_is a.old a.x a.n a.below c.ranges.old.fits c.requires,
+      replaced_fits a.old a.x a.n a.below c.ranges.old.fits c.requires,
     )
 
 cast-result : tie.Need-overflow-cast-result
@@ -105,18 +105,18 @@ cast-result c =
     let a = c.args in
     omega (
       arith,
-      replaced-is a.old a.x a.n a.below c.ranges.old.fits c.requires,
-      replaced-fits a.old a.x a.n a.below c.ranges.old.fits c.requires,
+      replaced_is a.old a.x a.n a.below c.ranges.old.fits c.requires,
+      replaced_fits a.old a.x a.n a.below c.ranges.old.fits c.requires,
     )
 
 returns : tie.Need-returns
 returns c =
     let a = c.args in
-    ap (to_bits 8) (replaced-is a.old a.x a.n a.below c.ranges.old.fits c.requires)
+    ap (to_bits 8) (replaced_is a.old a.x a.n a.below c.ranges.old.fits c.requires)
     ∙ right a.old a.x a.n a.below c.ranges.old.fits c.requires
 
-pub with-bits-spec : {M : Type 1} → statement M
-with-bits-spec =
+pub with_bits_spec : {M : Type 1} → statement M
+with_bits_spec =
     tie.close
     (tie.spec
     add-upper

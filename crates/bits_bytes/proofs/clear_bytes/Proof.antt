@@ -7,8 +7,8 @@ use lib.ListN.{length, length-set, length-replicate}
 use lib.Seq.{paste, paste-zero}
 use borrow.Author.Rules.{rules}
 use Rattle.meaning.specs.Bits.{bits_of, zeros}
-use Rattle.bits.proofs.OfBytes.{length-bitsOf}
-use Rattle.bits.proofs.Parts.{zeros-part}
+use Rattle.bits.proofs.OfBytes.{length_bits_of}
+use Rattle.bits.proofs.Parts.{zeros_part}
 use Rattle.bits.proofs.Stores.{byte_step}
 use Rattle.bits_bytes.proofs.clear_bytes.Statement.{statement}
 use Rattle.bits_bytes.proofs.clear_bytes.Tie as tie
@@ -47,10 +47,10 @@ loop-again c =
       length-set l.dst (a.j + l.cleared) 0 ∙ l.invariant.1,
       byte_step (bits_of a.dst.now) (zeros (8 * a.k)) l.dst a.j l.cleared 0
           (omega arith)
-          (omega (arith, length-bitsOf a.dst.now))
+          (omega (arith, length_bits_of a.dst.now))
           (omega (arith, length-replicate (8 * a.k) false))
           l.invariant.2
-          (sym (zeros-part (8 * a.k) (8 * l.cleared) 8 (omega arith))),
+          (sym (zeros_part (8 * a.k) (8 * l.cleared) 8 (omega arith))),
     )
 
 same_length : tie.Need-same-length invariant-loop decreases-loop
@@ -63,8 +63,8 @@ returns c =
     let end : 8 * l.cleared ≡ 8 * a.k = omega arith in
     l.invariant.2 ∙ ap (paste (bits_of a.dst.now) (8 * a.j) (zeros (8 * a.k))) end
 
-pub clear-bytes-spec : {M : Type 1} → statement M
-clear-bytes-spec =
+pub clear_bytes_spec : {M : Type 1} → statement M
+clear_bytes_spec =
     tie.close
     (tie.spec
     invariant-loop

@@ -6,8 +6,8 @@ use lib.ListN.{length, get_or, drop, length-drop, length-set}
 use lib.Seq.{paste, paste-zero}
 use borrow.Author.Rules.{rules}
 use Rattle.meaning.specs.Bits.{bits_of}
-use Rattle.bits.proofs.OfBytes.{length-bitsOf}
-use Rattle.bits.proofs.Parts.{byte-after}
+use Rattle.bits.proofs.OfBytes.{length_bits_of}
+use Rattle.bits.proofs.Parts.{byte_after}
 use Rattle.bits.proofs.Stores.{byte_step}
 use Rattle.bits_bytes.proofs.copy_bytes.Statement.{statement}
 use Rattle.bits_bytes.proofs.copy_bytes.Tie as tie
@@ -52,10 +52,10 @@ loop-again c =
       length-set l.dst (a.j + l.copied) (get_or a.src.now (a.i + l.copied) 0) ∙ l.invariant.1,
       byte_step (bits_of a.dst.now) (drop (8 * a.i) (bits_of a.src.now)) l.dst a.j l.copied (get_or a.src.now (a.i + l.copied) 0)
           (omega arith)
-          (omega (arith, length-bitsOf a.dst.now))
-          (omega (arith, length-bitsOf a.src.now, length-drop (8 * a.i) (bits_of a.src.now)))
+          (omega (arith, length_bits_of a.dst.now))
+          (omega (arith, length_bits_of a.src.now, length-drop (8 * a.i) (bits_of a.src.now)))
           l.invariant.2
-          (byte-after a.src.now a.i l.copied (search rules)),
+          (byte_after a.src.now a.i l.copied (search rules)),
     )
 
 same_length : tie.Need-same-length invariant-loop decreases-loop
@@ -68,8 +68,8 @@ returns c =
     let end : 8 * l.copied ≡ 8 * a.k = omega arith in
     l.invariant.2 ∙ ap (paste (bits_of a.dst.now) (8 * a.j) (drop (8 * a.i) (bits_of a.src.now))) end
 
-pub copy-bytes-spec : {M : Type 1} → statement M
-copy-bytes-spec =
+pub copy_bytes_spec : {M : Type 1} → statement M
+copy_bytes_spec =
     tie.close
     (tie.spec
     invariant-loop

@@ -6,8 +6,8 @@ use lib.ListN.{length, drop, length-drop, length-set}
 use lib.Seq.{paste, paste-zero}
 use borrow.Author.Rules.{rules}
 use Rattle.meaning.specs.Bits.{bits_of}
-use Rattle.bits.proofs.OfBytes.{length-bitsOf}
-use Rattle.bits.proofs.Parts.{two-bytes-after}
+use Rattle.bits.proofs.OfBytes.{length_bits_of}
+use Rattle.bits.proofs.Parts.{two_bytes_after}
 use Rattle.bits.proofs.Stores.{byte_step}
 use Rattle.bits_bytes.proofs.copy_shifted.Statement.{statement}
 use Rattle.bits_bytes.proofs.copy_shifted.Tie as tie
@@ -64,10 +64,10 @@ loop-again c =
       length-set l.dst (a.j + l.shifted) c.straddling.result ∙ l.invariant.1,
       byte_step (bits_of a.dst.now) (drop a.from (bits_of a.src.now)) l.dst a.j l.shifted c.straddling.result
           (omega arith)
-          (omega (arith, length-bitsOf a.dst.now))
-          (omega (arith, length-bitsOf a.src.now, length-drop a.from (bits_of a.src.now)))
+          (omega (arith, length_bits_of a.dst.now))
+          (omega (arith, length_bits_of a.src.now, length-drop a.from (bits_of a.src.now)))
           l.invariant.2
-          (c.straddling.ensures ∙ two-bytes-after a.src.now a.from l.shifted (search rules)),
+          (c.straddling.ensures ∙ two_bytes_after a.src.now a.from l.shifted (search rules)),
     )
 
 same_length : tie.Need-same-length invariant-loop decreases-loop
@@ -80,8 +80,8 @@ returns c =
     let end : 8 * l.shifted ≡ 8 * a.k = omega arith in
     l.invariant.2 ∙ ap (paste (bits_of a.dst.now) (8 * a.j) (drop a.from (bits_of a.src.now))) end
 
-pub copy-shifted-spec : {M : Type 1} → statement M
-copy-shifted-spec =
+pub copy_shifted_spec : {M : Type 1} → statement M
+copy_shifted_spec =
     tie.close
     (tie.spec
     invariant-loop

@@ -31,8 +31,8 @@ same-length-2 c = search rules
 returns-2 : tie.Need-returns-2
 returns-2 c = search rules
 
-pub copy-whole-spec : {M : Type 1} → statement M
-copy-whole-spec =
+pub copy_whole_spec : {M : Type 1} → statement M
+copy_whole_spec =
     tie.close
     (tie.spec
     copy-bytes-requires

@@ -6,9 +6,9 @@ use lib.ListN.{length, take, drop, length-set}
 use lib.Seq.{paste, paste-zero}
 use borrow.Author.Rules.{rules}
 use Rattle.meaning.specs.Bits.{bits_of, to_bits}
-use Rattle.bits.proofs.Numbers.{length-toBits}
-use Rattle.bits.proofs.OfBytes.{length-bitsOf}
-use Rattle.bits.proofs.Parts.{toBits-byte, toBits-part}
+use Rattle.bits.proofs.Numbers.{length_to_bits}
+use Rattle.bits.proofs.OfBytes.{length_bits_of}
+use Rattle.bits.proofs.Parts.{to_bits_byte, to_bits_part}
 use Rattle.bits.proofs.Stores.{byte_step}
 use Rattle.bits_bytes.proofs.put_bytes.Statement.{statement}
 use Rattle.bits_bytes.proofs.put_bytes.Tie as tie
@@ -17,9 +17,9 @@ use Rattle.bits_bytes.proofs.put_bytes.Tie as tie
 piece : (x k t : ℕ) → t < k → to_bits 8 (x / 2 ^ (8 * (k - 1 - t)) % 256) ≡ take 8 (drop (8 * t) (to_bits (8 * k) x))
 piece x k t h =
     let e : 8 * (k - 1 - t) ≡ 8 * k - (8 * t + 8) = omega arith in
-    toBits-byte 8 (x / 2 ^ (8 * (k - 1 - t))) (omega arith)
+    to_bits_byte 8 (x / 2 ^ (8 * (k - 1 - t))) (omega arith)
     ∙ ap (λ (i : ℕ). to_bits 8 (x / 2 ^ i)) e
-    ∙ sym (toBits-part (8 * k) (8 * t) 8 x (omega arith))
+    ∙ sym (to_bits_part (8 * k) (8 * t) 8 x (omega arith))
 
 abbrev invariant-loop : tie.invariant-loop
 invariant-loop dst₀ j x k put₀ dst put =
@@ -70,8 +70,8 @@ loop-again c =
       length-set l.dst (a.j + l.put) (a.x / 2 ^ (8 * (a.k - 1 - l.put)) % 256) ∙ l.invariant.1,
       byte_step (bits_of a.dst.now) (to_bits (8 * a.k) a.x) l.dst a.j l.put (a.x / 2 ^ (8 * (a.k - 1 - l.put)) % 256)
           (omega arith)
-          (omega (arith, length-bitsOf a.dst.now))
-          (omega (arith, length-toBits (8 * a.k) a.x))
+          (omega (arith, length_bits_of a.dst.now))
+          (omega (arith, length_to_bits (8 * a.k) a.x))
           l.invariant.2
           (piece a.x a.k l.put (search rules)),
     )
@@ -86,8 +86,8 @@ returns c =
     let end : 8 * l.put ≡ 8 * a.k = omega arith in
     l.invariant.2 ∙ ap (paste (bits_of a.dst.now) (8 * a.j) (to_bits (8 * a.k) a.x)) end
 
-pub put-bytes-spec : {M : Type 1} → statement M
-put-bytes-spec =
+pub put_bytes_spec : {M : Type 1} → statement M
+put_bytes_spec =
     tie.close
     (tie.spec
     invariant-loop

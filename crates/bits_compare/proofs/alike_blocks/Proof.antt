@@ -5,7 +5,7 @@ use native.Mathlib.Omega.{arith}
 use borrow.Author.Rules.{rules}
 use Rattle.meaning.specs.Bits.{bits_of}
 use Rattle.bits_compare.specs.Alike.{Alike}
-use Rattle.bits_compare.proofs.Comparing.{alike-more}
+use Rattle.bits_compare.proofs.Comparing.{alike_more}
 use Rattle.bits_compare.proofs.alike_blocks.Statement.{statement}
 use Rattle.bits_compare.proofs.alike_blocks.Tie as tie
 
@@ -51,14 +51,14 @@ loop-again c =
     let l = c.before.before.before.loop in
     let r = c.before.unlike-bytes in
     let none : r.result ≡ 0 = omega arith in
-    alike-more (bits_of a.a.now) a.from (bits_of a.b.now) a.at a.n l.alike (8 * a.block) (search rules) l.invariant
+    alike_more (bits_of a.a.now) a.from (bits_of a.b.now) a.at a.n l.alike (8 * a.block) (search rules) l.invariant
     (r.ensures none).same
 
 returns-2 : tie.Need-returns-2 invariant-loop decreases-loop
 returns-2 c = c.before.loop.invariant
 
-pub alike-blocks-spec : {M : Type 1} → statement M
-alike-blocks-spec =
+pub alike_blocks_spec : {M : Type 1} → statement M
+alike_blocks_spec =
     tie.close
     (tie.spec
     invariant-loop

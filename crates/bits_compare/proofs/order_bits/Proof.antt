@@ -5,10 +5,10 @@ use lib.ListN.{take, drop}
 use native.Mathlib.Omega.{arith}
 use borrow.Author.Rules.{rules}
 use Rattle.meaning.specs.Bits.{to_bits, bits_of}
-use Rattle.meaning.specs.Records.{orderBits}
+use Rattle.meaning.specs.Records.{order_bits}
 use Rattle.bits_compare.specs.Alike.{Alike}
-use Rattle.bits.specs.Runs.{orderNo}
-use Rattle.bits_compare.proofs.Comparing.{alike-none, alike-more, order_alike, Says, decided, order-decided}
+use Rattle.bits.specs.Runs.{order_no}
+use Rattle.bits_compare.proofs.Comparing.{alike_none, alike_more, order_alike, Says, decided, order_decided}
 use Rattle.bits_compare.proofs.order_bits.Statement.{statement}
 use Rattle.bits_compare.proofs.order_bits.Tie as tie
 
@@ -21,7 +21,7 @@ decreases-loop a from b at n large₀ same₀ same = n - same
 alike-blocks-requires : tie.Need-alike-blocks-requires invariant-loop decreases-loop
 alike-blocks-requires c κs =
     let a = c.before.before.args in
-    (search rules, (search rules, (alike-none (bits_of a.a.now) a.from (bits_of a.b.now) a.at a.n, search rules)))
+    (search rules, (search rules, (alike_none (bits_of a.a.now) a.from (bits_of a.b.now) a.at a.n, search rules)))
 
 alike-blocks-requires-2 : tie.Need-alike-blocks-requires-2 invariant-loop decreases-loop
 alike-blocks-requires-2 c κs = (search rules, (search rules, (c.alike-blocks.ensures, search rules)))
@@ -50,7 +50,7 @@ bits-at-requires-2 c κs = search rules
 -- Two pieces whose numbers differ decide, whatever follows.
 told : (c : tie.After-bits-at2 invariant-loop decreases-loop) (o : Ordering) → ((r : Ordering) → decided o r ≡ o) → Says o c.before.bits_at.result c.bits-at2.result →
     let a = c.before.before.before.before.before.before.before.before.before.args in
-    orderNo o ≡ orderNo (orderBits (take a.n (drop a.from (bits_of a.a.now))) (take a.n (drop a.at (bits_of a.b.now))))
+    order_no o ≡ order_no (order_bits (take a.n (drop a.from (bits_of a.a.now))) (take a.n (drop a.at (bits_of a.b.now))))
 told c o whatever says =
     let a = c.before.before.before.before.before.before.before.before.before.args in
     let l = c.before.before.before.before.loop in
@@ -58,8 +58,8 @@ told c o whatever says =
     let x = c.before.bits_at in
     let y = c.bits-at2 in
     sym
-    (ap orderNo
-    (order-decided (bits_of a.a.now) (bits_of a.b.now) a.from a.at a.n l.same step.result x.result y.result o
+    (ap order_no
+    (order_decided (bits_of a.a.now) (bits_of a.b.now) a.from a.at a.n l.same step.result x.result y.result o
     l.invariant
     (search rules)
     x.ensures.0
@@ -89,7 +89,7 @@ loop-again c =
     let x = c.before.before.before.bits_at in
     let y = c.before.before.bits-at2 in
     let e : x.result ≡ y.result = omega arith in
-    alike-more (bits_of a.a.now) a.from (bits_of a.b.now) a.at a.n l.same step.result (search rules) l.invariant
+    alike_more (bits_of a.a.now) a.from (bits_of a.b.now) a.at a.n l.same step.result (search rules) l.invariant
     (sym x.ensures.0 ∙ ap (to_bits step.result) e ∙ y.ensures.0)
 
 returns-3 : tie.Need-returns-3 invariant-loop decreases-loop
@@ -97,10 +97,10 @@ returns-3 c =
     let a = c.before.before.before.before.before.before.args in
     let l = c.before.loop in
     let all : l.same ≡ a.n = omega arith in
-    sym (ap orderNo (order_alike (subst (Alike (bits_of a.a.now) a.from (bits_of a.b.now) a.at a.n) all l.invariant).same))
+    sym (ap order_no (order_alike (subst (Alike (bits_of a.a.now) a.from (bits_of a.b.now) a.at a.n) all l.invariant).same))
 
-pub order-bits-spec : {M : Type 1} → statement M
-order-bits-spec =
+pub order_bits_spec : {M : Type 1} → statement M
+order_bits_spec =
     tie.close
     (tie.spec
     invariant-loop

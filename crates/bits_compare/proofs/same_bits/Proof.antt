@@ -8,8 +8,8 @@ use lib.Dec.{eqb}
 use lib.ListN.{take, drop}
 use borrow.Author.Rules.{rules}
 use Rattle.meaning.specs.Bits.{bits_of}
-use Rattle.bits_compare.proofs.Comparing.{same-by-order}
-use Rattle.bits.proofs.OfBytes.{length-bitsOf}
+use Rattle.bits_compare.proofs.Comparing.{same_by_order}
+use Rattle.bits.proofs.OfBytes.{length_bits_of}
 use Rattle.bits.proofs.Runs.{length_run}
 use Rattle.bits_compare.proofs.same_bits.Statement.{statement}
 use Rattle.bits_compare.proofs.same_bits.Tie as tie
@@ -23,9 +23,9 @@ returns c =
     let v : List Bool = take a.n (drop a.from (bits_of a.a.now)) in
     let w : List Bool = take a.n (drop a.at (bits_of a.b.now)) in
     ap (λ (r : ℕ). eqb r 1) c.order-bits.ensures
-    ∙ same-by-order v w
-    (length_run (bits_of a.a.now) a.from a.n (omega (arith, length-bitsOf a.a.now))
-    ∙ sym (length_run (bits_of a.b.now) a.at a.n (omega (arith, length-bitsOf a.b.now))))
+    ∙ same_by_order v w
+    (length_run (bits_of a.a.now) a.from a.n (omega (arith, length_bits_of a.a.now))
+    ∙ sym (length_run (bits_of a.b.now) a.at a.n (omega (arith, length_bits_of a.b.now))))
 
-pub same-bits-spec : {M : Type 1} → statement M
-same-bits-spec = tie.close (tie.spec order-bits-requires returns)
+pub same_bits_spec : {M : Type 1} → statement M
+same_bits_spec = tie.close (tie.spec order-bits-requires returns)

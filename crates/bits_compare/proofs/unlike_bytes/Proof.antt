@@ -9,7 +9,7 @@ use borrow.Author.Rules.{rules}
 use borrow.Author.Tests.{eqb-true}
 use Rattle.meaning.specs.Bits.{to_bits, bits_of}
 use Rattle.bits_compare.specs.Alike.{Alike}
-use Rattle.bits_compare.proofs.Comparing.{alike-none, alike-more}
+use Rattle.bits_compare.proofs.Comparing.{alike_none, alike_more}
 use Rattle.bits_compare.proofs.unlike_bytes.Statement.{statement}
 use Rattle.bits_compare.proofs.unlike_bytes.Tie as tie
 
@@ -32,7 +32,7 @@ decreases-loop a from b at n unlike₀ seen₀ unlike seen = n - seen
 loop-holds : tie.Need-loop-init invariant-loop decreases-loop
 loop-holds c =
     let a = c.before.before.args in
-    (search rules, search rules, λ e. alike-none (bits_of a.a.now) a.from (bits_of a.b.now) a.at (8 * a.n))
+    (search rules, search rules, λ e. alike_none (bits_of a.a.now) a.from (bits_of a.b.now) a.at (8 * a.n))
 
 mul-bits-at : tie.Need-overflow-mul-bits-at invariant-loop decreases-loop
 mul-bits-at c = search rules
@@ -75,7 +75,7 @@ loop-again c =
       omega (arith, at_most_one (not (eqb x.result y.result))),
       λ e.
           subst (Alike (bits_of a.a.now) a.from (bits_of a.b.now) a.at (8 * a.n)) next
-          (alike-more (bits_of a.a.now) a.from (bits_of a.b.now) a.at (8 * a.n) (8 * l.seen) 8 (omega arith)
+          (alike_more (bits_of a.a.now) a.from (bits_of a.b.now) a.at (8 * a.n) (8 * l.seen) 8 (omega arith)
           (l.invariant.2 (omega arith))
           (sym x.ensures.0
           ∙ ap (to_bits 8) (eqb-true x.result y.result (uncounted (eqb x.result y.result) (omega arith)))
@@ -89,8 +89,8 @@ returns c =
     let all : 8 * l.seen ≡ 8 * a.n = omega arith in
     λ e. subst (Alike (bits_of a.a.now) a.from (bits_of a.b.now) a.at (8 * a.n)) all (l.invariant.2 e)
 
-pub unlike-bytes-spec : {M : Type 1} → statement M
-unlike-bytes-spec =
+pub unlike_bytes_spec : {M : Type 1} → statement M
+unlike_bytes_spec =
     tie.close
     (tie.spec
     invariant-loop

@@ -9,10 +9,10 @@ use lib.ListN.{take, drop}
 use lib.Seq.{paste}
 use borrow.Author.Rules.{rules}
 use Rattle.meaning.specs.Bits.{bits_of, to_bits}
-use Rattle.bits.proofs.Numbers.{length-toBits}
-use Rattle.bits.proofs.OfBytes.{length-bitsOf}
-use Rattle.bits.proofs.Parts.{take_own, take-toBits, drop-toBits, toBits-byte, toBits-part}
-use Rattle.meaning.proofs.Pasted.{paste-same, paste-on}
+use Rattle.bits.proofs.Numbers.{length_to_bits}
+use Rattle.bits.proofs.OfBytes.{length_bits_of}
+use Rattle.bits.proofs.Parts.{take_own, take_to_bits, drop_to_bits, to_bits_byte, to_bits_part}
+use Rattle.meaning.proofs.Pasted.{paste_same, paste_on}
 use Rattle.bits_numbers.proofs.put_number.Statement.{statement}
 use Rattle.bits_numbers.proofs.put_number.Tie as tie
 
@@ -20,13 +20,13 @@ use Rattle.bits_numbers.proofs.put_number.Tie as tie
 first : (x head rest n : ℕ) → head ≤ 8 → n ≡ head + rest → take head (to_bits head (x / 2 ^ rest % 256)) ≡ take head (to_bits n x)
 first x head rest n h e =
     take_own head (x / 2 ^ rest % 256)
-    ∙ toBits-byte head (x / 2 ^ rest) h
-    ∙ sym (take-toBits head rest x)
+    ∙ to_bits_byte head (x / 2 ^ rest) h
+    ∙ sym (take_to_bits head rest x)
     ∙ ap (λ (k : ℕ). take head (to_bits k x)) (sym e)
 
 last : (x done rest n : ℕ) → rest ≤ 8 → n ≡ done + rest → take rest (to_bits rest (x % 256)) ≡ take rest (drop done (to_bits n x))
 last x done rest n h e =
-    ap (take rest) (toBits-byte rest x h ∙ sym (drop-toBits done rest x) ∙ ap (λ (k : ℕ). drop done (to_bits k x)) (sym e))
+    ap (take rest) (to_bits_byte rest x h ∙ sym (drop_to_bits done rest x) ∙ ap (λ (k : ℕ). drop done (to_bits k x)) (sym e))
 
 -- All but the bits after the last whole byte.
 most : (c : tie.After-slice-known4) →
@@ -38,18 +38,18 @@ most c =
     let head : ℕ = 8 - a.at % 8 in
     let bytes : ℕ = (a.n - head) / 8 in
     let rest : ℕ = a.n - (head + 8 * bytes) in
-    paste-on (bits_of a.dst.now) (to_bits a.n a.x) (to_bits (8 * bytes) (a.x / 2 ^ rest))
+    paste_on (bits_of a.dst.now) (to_bits a.n a.x) (to_bits (8 * bytes) (a.x / 2 ^ rest))
     (bits_of c.before.before.before.before.before.before.put-some2.new.0)
     (bits_of c.before.before.put-bytes.new.0)
     a.at head (8 * (a.at / 8 + 1)) (8 * bytes)
-    (omega (arith, length-bitsOf a.dst.now))
-    (omega (arith, length-toBits a.n a.x))
+    (omega (arith, length_bits_of a.dst.now))
+    (omega (arith, length_to_bits a.n a.x))
     (c.before.before.before.before.before.before.put-some2.ensures
-    ∙ paste-same (bits_of a.dst.now) (to_bits head (a.x / 2 ^ (a.n - head) % 256)) (to_bits a.n a.x) a.at head
+    ∙ paste_same (bits_of a.dst.now) (to_bits head (a.x / 2 ^ (a.n - head) % 256)) (to_bits a.n a.x) a.at head
     (first a.x head (a.n - head) a.n (omega arith) (omega arith)))
     c.before.before.put-bytes.ensures
     (omega arith)
-    (take_own (8 * bytes) (a.x / 2 ^ rest) ∙ sym (toBits-part a.n head (8 * bytes) a.x (omega arith)))
+    (take_own (8 * bytes) (a.x / 2 ^ rest) ∙ sym (to_bits_part a.n head (8 * bytes) a.x (omega arith)))
 
 cast-lowest : tie.Need-overflow-cast-lowest
 cast-lowest c = search rules
@@ -67,7 +67,7 @@ returns : tie.Need-returns
 returns c =
     let a = c.before.before.before.before.before.before.args in
     c.before.before.put_some_lem.ensures
-    ∙ ap (λ (v : List Bool). paste (bits_of a.dst.now) a.at v a.n) (toBits-byte a.n a.x (search rules))
+    ∙ ap (λ (v : List Bool). paste (bits_of a.dst.now) a.at v a.n) (to_bits_byte a.n a.x (search rules))
 
 sub-put-some : tie.Need-overflow-sub-put-some
 sub-put-some c = search rules
@@ -117,12 +117,12 @@ returns-2 c =
     let head : ℕ = 8 - a.at % 8 in
     let done : ℕ = head + 8 * ((a.n - head) / 8) in
     let all : done + (a.n - done) ≡ a.n = omega arith in
-    paste-on (bits_of a.dst.now) (to_bits a.n a.x) (to_bits (a.n - done) (a.x % 256))
+    paste_on (bits_of a.dst.now) (to_bits a.n a.x) (to_bits (a.n - done) (a.x % 256))
     (bits_of c.before.before.before.before.before.before.before.put-bytes.new.0)
     (bits_of c.before.before.put-some3.new.0)
     a.at done (a.at + done) (a.n - done)
-    (omega (arith, length-bitsOf a.dst.now))
-    (omega (arith, length-toBits a.n a.x))
+    (omega (arith, length_bits_of a.dst.now))
+    (omega (arith, length_to_bits a.n a.x))
     (most c.before.before.before.before.before)
     c.before.before.put-some3.ensures
     refl
@@ -139,8 +139,8 @@ returns-3 c =
     let all : head + 8 * ((a.n - head) / 8) ≡ a.n = omega arith in
     most c.before ∙ ap (paste (bits_of a.dst.now) a.at (to_bits a.n a.x)) all
 
-pub put-number-spec : {M : Type 1} → statement M
-put-number-spec =
+pub put_number_spec : {M : Type 1} → statement M
+put_number_spec =
     tie.close
     (tie.spec
     cast-lowest

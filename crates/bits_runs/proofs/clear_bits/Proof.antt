@@ -9,10 +9,10 @@ use lib.ListN.{length-replicate}
 use lib.Seq.{paste}
 use borrow.Author.Rules.{rules}
 use Rattle.meaning.specs.Bits.{bits_of, to_bits, zeros}
-use Rattle.bits.proofs.Numbers.{toBits-zero}
-use Rattle.bits.proofs.OfBytes.{length-bitsOf}
-use Rattle.bits.proofs.Parts.{take_own, zeros-part}
-use Rattle.meaning.proofs.Pasted.{paste-same, paste-on}
+use Rattle.bits.proofs.Numbers.{to_bits_zero}
+use Rattle.bits.proofs.OfBytes.{length_bits_of}
+use Rattle.bits.proofs.Parts.{take_own, zeros_part}
+use Rattle.meaning.proofs.Pasted.{paste_same, paste_on}
 use Rattle.bits_runs.proofs.clear_bits.Statement.{statement}
 use Rattle.bits_runs.proofs.clear_bits.Tie as tie
 
@@ -25,18 +25,18 @@ most c =
     let a = c.before.before.before.before.before.before.before.before.before.before.args in
     let head : ℕ = 8 - a.at % 8 in
     let bytes : ℕ = (a.n - head) / 8 in
-    paste-on (bits_of a.dst.now) (zeros a.n) (zeros (8 * bytes))
+    paste_on (bits_of a.dst.now) (zeros a.n) (zeros (8 * bytes))
     (bits_of c.before.before.before.before.before.before.put-some2.new.0)
     (bits_of c.before.before.clear-bytes.new.0)
     a.at head (8 * (a.at / 8 + 1)) (8 * bytes)
-    (omega (arith, length-bitsOf a.dst.now))
+    (omega (arith, length_bits_of a.dst.now))
     (omega (arith, length-replicate a.n false))
     (c.before.before.before.before.before.before.put-some2.ensures
-    ∙ paste-same (bits_of a.dst.now) (to_bits head 0) (zeros a.n) a.at head
-    (take_own head 0 ∙ sym (zeros-part a.n 0 head (omega arith))))
+    ∙ paste_same (bits_of a.dst.now) (to_bits head 0) (zeros a.n) a.at head
+    (take_own head 0 ∙ sym (zeros_part a.n 0 head (omega arith))))
     c.before.before.clear-bytes.ensures
     (omega arith)
-    (zeros-part (8 * bytes) 0 (8 * bytes) (omega arith) ∙ sym (zeros-part a.n head (8 * bytes) (omega arith)))
+    (zeros_part (8 * bytes) 0 (8 * bytes) (omega arith) ∙ sym (zeros_part a.n head (8 * bytes) (omega arith)))
 
 sub-head : tie.Need-overflow-sub-head
 sub-head c = search rules
@@ -50,7 +50,7 @@ same_length c = search rules
 returns : tie.Need-returns
 returns c =
     let a = c.before.before.before.before.before.before.args in
-    c.before.before.put_some_lem.ensures ∙ ap (λ (v : List Bool). paste (bits_of a.dst.now) a.at v a.n) (toBits-zero a.n)
+    c.before.before.put_some_lem.ensures ∙ ap (λ (v : List Bool). paste (bits_of a.dst.now) a.at v a.n) (to_bits_zero a.n)
 
 put-some-requires-2 : tie.Need-put-some-requires-2
 put-some-requires-2 c κs = search rules
@@ -88,16 +88,16 @@ returns-2 c =
     let head : ℕ = 8 - a.at % 8 in
     let done : ℕ = head + 8 * ((a.n - head) / 8) in
     let all : done + (a.n - done) ≡ a.n = omega arith in
-    paste-on (bits_of a.dst.now) (zeros a.n) (to_bits (a.n - done) 0)
+    paste_on (bits_of a.dst.now) (zeros a.n) (to_bits (a.n - done) 0)
     (bits_of c.before.before.before.before.before.before.before.clear-bytes.new.0)
     (bits_of c.before.before.put-some3.new.0)
     a.at done (a.at + done) (a.n - done)
-    (omega (arith, length-bitsOf a.dst.now))
+    (omega (arith, length_bits_of a.dst.now))
     (omega (arith, length-replicate a.n false))
     (most c.before.before.before.before.before)
     c.before.before.put-some3.ensures
     refl
-    (take_own (a.n - done) 0 ∙ sym (zeros-part a.n done (a.n - done) (omega arith)))
+    (take_own (a.n - done) 0 ∙ sym (zeros_part a.n done (a.n - done) (omega arith)))
     ∙ ap (paste (bits_of a.dst.now) a.at (zeros a.n)) all
 
 same-length-3 : tie.Need-same-length-3
@@ -110,8 +110,8 @@ returns-3 c =
     let all : head + 8 * ((a.n - head) / 8) ≡ a.n = omega arith in
     most c.before ∙ ap (paste (bits_of a.dst.now) a.at (zeros a.n)) all
 
-pub clear-bits-spec : {M : Type 1} → statement M
-clear-bits-spec =
+pub clear_bits_spec : {M : Type 1} → statement M
+clear_bits_spec =
     tie.close
     (tie.spec
     sub-head

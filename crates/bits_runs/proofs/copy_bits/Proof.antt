@@ -7,8 +7,8 @@ use lib.ListN.{take, drop, length-drop}
 use lib.Seq.{paste, drop-drop}
 use borrow.Author.Rules.{rules}
 use Rattle.meaning.specs.Bits.{bits_of}
-use Rattle.bits.proofs.OfBytes.{length-bitsOf}
-use Rattle.meaning.proofs.Pasted.{paste-on}
+use Rattle.bits.proofs.OfBytes.{length_bits_of}
+use Rattle.meaning.proofs.Pasted.{paste_on}
 use Rattle.bits_runs.proofs.copy_bits.Statement.{statement}
 use Rattle.bits_runs.proofs.copy_bits.Tie as tie
 
@@ -23,12 +23,12 @@ most c =
     let head : ℕ = 8 - a.at % 8 in
     let bytes : ℕ = (a.n - head) / 8 in
     let bits = drop a.from (bits_of a.src.now) in
-    paste-on (bits_of a.dst.now) bits (drop (a.from + head) (bits_of a.src.now))
+    paste_on (bits_of a.dst.now) bits (drop (a.from + head) (bits_of a.src.now))
     (bits_of c.before.before.before.before.before.before.copy-some2.new.1.1.0)
     (bits_of c.before.before.copy-whole.new.1.1.0)
     a.at head (8 * (a.at / 8 + 1)) (8 * bytes)
-    (omega (arith, length-bitsOf a.dst.now))
-    (omega (arith, length-bitsOf a.src.now, length-drop a.from (bits_of a.src.now)))
+    (omega (arith, length_bits_of a.dst.now))
+    (omega (arith, length_bits_of a.src.now, length-drop a.from (bits_of a.src.now)))
     c.before.before.before.before.before.before.copy-some2.ensures
     c.before.before.copy-whole.ensures
     (omega arith)
@@ -89,12 +89,12 @@ returns-2 c =
     let done : ℕ = head + 8 * ((a.n - head) / 8) in
     let bits = drop a.from (bits_of a.src.now) in
     let all : done + (a.n - done) ≡ a.n = omega arith in
-    paste-on (bits_of a.dst.now) bits (drop (a.from + done) (bits_of a.src.now))
+    paste_on (bits_of a.dst.now) bits (drop (a.from + done) (bits_of a.src.now))
     (bits_of c.before.before.before.before.before.before.before.copy-whole.new.1.1.0)
     (bits_of c.before.before.copy-some3.new.1.1.0)
     a.at done (a.at + done) (a.n - done)
-    (omega (arith, length-bitsOf a.dst.now))
-    (omega (arith, length-bitsOf a.src.now, length-drop a.from (bits_of a.src.now)))
+    (omega (arith, length_bits_of a.dst.now))
+    (omega (arith, length_bits_of a.src.now, length-drop a.from (bits_of a.src.now)))
     (most c.before.before.before.before.before)
     c.before.before.copy-some3.ensures
     refl

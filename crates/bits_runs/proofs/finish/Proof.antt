@@ -7,7 +7,7 @@ use native.Mathlib.Omega.{arith}
 use lib.Seq.{paste, paste-zero}
 use borrow.Author.Rules.{rules}
 use Rattle.meaning.specs.Bits.{bits_of, zeros, room}
-use Rattle.bits.proofs.Numbers.{toBits-zero}
+use Rattle.bits.proofs.Numbers.{to_bits_zero}
 use Rattle.bits_runs.proofs.finish.Statement.{statement}
 use Rattle.bits_runs.proofs.finish.Tie as tie
 
@@ -25,7 +25,7 @@ returns c =
     let a = c.before.before.before.before.before.before.args in
     let e : 8 - a.w % 8 ≡ 8 * room a.w - a.w = omega arith in
     c.before.before.put_some_lem.ensures
-    ∙ ap (λ (v : List Bool). paste (bits_of a.out.now) a.w v (8 - a.w % 8)) (toBits-zero (8 - a.w % 8))
+    ∙ ap (λ (v : List Bool). paste (bits_of a.out.now) a.w v (8 - a.w % 8)) (to_bits_zero (8 - a.w % 8))
     ∙ ap (λ (k : ℕ). paste (bits_of a.out.now) a.w (zeros k) k) e
 
 returns-2 : tie.Need-returns-2

@@ -7,8 +7,8 @@ use lib.Dec.{ltb, leb}
 use lib.ListN.{get_or}
 use borrow.Author.Rules.{rules}
 use borrow.Author.Tests.{le-leb, lt-leb, lt-ltb, le-ltb}
-use Rattle.meaning.specs.Groups.{factIn}
-use Rattle.checked_limits.proofs.Limits.{first_two, first_three, first-four, first-none}
+use Rattle.meaning.specs.Groups.{fact_in}
+use Rattle.checked_limits.proofs.Limits.{first_two, first_three, first_four, first_none}
 use Rattle.checked_limits.proofs.node_limit.Statement.{statement}
 use Rattle.checked_limits.proofs.node_limit.Tie as tie
 
@@ -17,10 +17,10 @@ abbrev missing : tie.Start → Bool
 missing s = leb s.args.count s.args.n
 
 abbrev wide : tie.Start → Bool
-wide s = ltb 524288 (get_or (factIn 0 8 s.args.groups.now) s.args.n 0)
+wide s = ltb 524288 (get_or (fact_in 0 8 s.args.groups.now) s.args.n 0)
 
 abbrev large : tie.Start → Bool
-large s = ltb 2097152 (get_or (factIn 8 8 s.args.groups.now) s.args.n 0)
+large s = ltb 2097152 (get_or (fact_in 8 8 s.args.groups.now) s.args.n 0)
 
 returns : tie.Need-returns
 returns c =
@@ -53,7 +53,7 @@ returns-3 c =
     let w = c.before.before in
     let e = w.before.before in
     let s = e.before.before in
-    first-four (missing s) (wide s) (large s) false (here e) (narrow w)
+    first_four (missing s) (wide s) (large s) false (here e) (narrow w)
     (ap (ltb 2097152) (sym c.before.size-at.ensures) ∙ lt-ltb 2097152 c.before.size-at.result c.if3.true)
 
 returns-4 : tie.Need-returns-4
@@ -61,9 +61,9 @@ returns-4 c =
     let w = c.before.before in
     let e = w.before.before in
     let s = e.before.before in
-    first-none (missing s) (wide s) (large s) false (here e) (narrow w)
+    first_none (missing s) (wide s) (large s) false (here e) (narrow w)
     (ap (ltb 2097152) (sym c.before.size-at.ensures) ∙ le-ltb 2097152 c.before.size-at.result c.if3.false) refl
 
-pub node-limit-spec : {M : Type 1} → statement M
-node-limit-spec =
+pub node_limit_spec : {M : Type 1} → statement M
+node_limit_spec =
     tie.close (tie.spec returns width-at-requires returns-2 size-at-requires returns-3 returns-4)

@@ -26,5 +26,5 @@ returns-3 c =
     same_test (8 * (a.len - a.offset / 8)) (a.offset % 8 + a.width) (8 * a.len) (a.offset + a.width) (λ h. omega arith)
     (λ h. omega arith)
 
-pub past-spec : {M : Type 1} → statement M
-past-spec = tie.close (tie.spec returns returns-2 mul-result add-result returns-3)
+pub past_spec : {M : Type 1} → statement M
+past_spec = tie.close (tie.spec returns returns-2 mul-result add-result returns-3)

@@ -7,8 +7,8 @@ use lib.Dec.{ltb, leb}
 use lib.ListN.{get_or}
 use borrow.Author.Rules.{rules}
 use borrow.Author.Tests.{leb-false, ltb-false}
-use Rattle.meaning.specs.Groups.{factIn}
-use Rattle.checked_limits.proofs.Limits.{first-five, first-none, first_any, first-six}
+use Rattle.meaning.specs.Groups.{fact_in}
+use Rattle.checked_limits.proofs.Limits.{first_five, first_none, first_any, first_six}
 use Rattle.checked_limits.proofs.record_limit.Statement.{statement}
 use Rattle.checked_limits.proofs.record_limit.Tie as tie
 
@@ -17,13 +17,13 @@ abbrev missing : tie.Start → Bool
 missing s = leb s.args.count s.args.n
 
 abbrev width : tie.Start → ℕ
-width s = get_or (factIn 0 8 s.args.groups.now) s.args.n 0
+width s = get_or (fact_in 0 8 s.args.groups.now) s.args.n 0
 
 abbrev wide : tie.Start → Bool
 wide s = ltb 524288 (width s)
 
 abbrev large : tie.Start → Bool
-large s = ltb 2097152 (get_or (factIn 8 8 s.args.groups.now) s.args.n 0)
+large s = ltb 2097152 (get_or (fact_in 8 8 s.args.groups.now) s.args.n 0)
 
 abbrev beyond : tie.Start → Bool
 beyond s = ltb (8 * s.args.len) (s.args.offset + width s)
@@ -44,7 +44,7 @@ passes : (c : tie.Else1)
 passes c =
     let l = c.before in
     let s = l.before.before in
-    first-six (missing s) (wide s) (large s) (sym l.node-limit.ensures ∙ c.if1.false)
+    first_six (missing s) (wide s) (large s) (sym l.node-limit.ensures ∙ c.if1.false)
 
 width-at-requires : tie.Need-width-at-requires
 width-at-requires c κs =
@@ -72,15 +72,15 @@ returns-2 c =
     let e = c.before.before.before in
     let s = e.before.before.before in
     let p = passes e in
-    first-five (missing s) (wide s) (large s) (beyond s) p.0 p.1 p.2 (sym (asked c.before) ∙ c.if2.true)
+    first_five (missing s) (wide s) (large s) (beyond s) p.0 p.1 p.2 (sym (asked c.before) ∙ c.if2.true)
 
 returns-3 : tie.Need-returns-3
 returns-3 c =
     let e = c.before.before.before in
     let s = e.before.before.before in
     let p = passes e in
-    first-none (missing s) (wide s) (large s) (beyond s) p.0 p.1 p.2 (sym (asked c.before) ∙ c.if2.false)
+    first_none (missing s) (wide s) (large s) (beyond s) p.0 p.1 p.2 (sym (asked c.before) ∙ c.if2.false)
 
-pub record-limit-spec : {M : Type 1} → statement M
-record-limit-spec =
+pub record_limit_spec : {M : Type 1} → statement M
+record_limit_spec =
     tie.close (tie.spec node-limit-requires returns width-at-requires past-requires returns-2 returns-3)

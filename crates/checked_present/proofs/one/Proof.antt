@@ -3,7 +3,7 @@ use borrow.Author.Rules.{rules}
 use mathlib.Core.Path.{◌≡◌, sym, ◌∙◌, ap}
 use Rattle.meaning.specs.Tables.{Table, table}
 use Rattle.meaning.specs.Ladder.{accepted}
-use Rattle.meaning.specs.TypeCalls.{checkTableCall}
+use Rattle.meaning.specs.TypeCalls.{check_table_call}
 use Rattle.answers.specs.Verdicts.{done_of}
 use Rattle.checked_present.proofs.Asking.{not_sound, missing, there}
 use Rattle.checked_present.proofs.one.Statement.{statement}
@@ -18,7 +18,7 @@ of c =
 abbrev entry : tie.After-enum-told → tie.Start
 entry c = c.before.before.before.before.before.before.before
 
-passed : (c : tie.After-enum-told) → accepted (tt {0}) ≡ checkTableCall (of (entry c))
+passed : (c : tie.After-enum-told) → accepted (tt {0}) ≡ check_table_call (of (entry c))
 passed c = sym (ap done_of c.enum_told.given.1) ∙ c.before.before.sound.ensures
 
 sound-requires : tie.Need-sound-requires

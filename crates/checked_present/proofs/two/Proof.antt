@@ -5,7 +5,7 @@ use mathlib.Core.List.{[], ◌∷◌}
 use Rattle.meaning.specs.Tables.{Table, table}
 use Rattle.meaning.specs.Ladder.{accepted}
 use Rattle.answers.specs.Verdicts.{done_of}
-use Rattle.checked_present.proofs.Asking.{judged, first-stop, second-missing, both-there}
+use Rattle.checked_present.proofs.Asking.{judged, first_stop, second_missing, both_there}
 use Rattle.checked_present.proofs.two.Statement.{statement}
 use Rattle.checked_present.proofs.two.Tie as tie
 
@@ -31,18 +31,18 @@ returns : tie.Need-returns
 returns c =
     let s = c.before.before.before.before.before.before.before.before in
     let r = c.before.judged.given in
-    first-stop (of s) s.args.a s.args.b r.0.0.number r.0.0.place (sym (ap done_of r.1) ∙ c.before.before.before.one.ensures)
+    first_stop (of s) s.args.a s.args.b r.0.0.number r.0.0.place (sym (ap done_of r.1) ∙ c.before.before.before.one.ensures)
 
 enum_told : tie.Need-enum-told
 enum_told c = search rules
 
 returns-2 : tie.Need-returns-2
 returns-2 c =
-    let s = entry c.before in second-missing (of s) s.args.a s.args.b (passed c.before) c.if1.true
+    let s = entry c.before in second_missing (of s) s.args.a s.args.b (passed c.before) c.if1.true
 
 returns-3 : tie.Need-returns-3
 returns-3 c =
-    let s = entry c.before in both-there (of s) s.args.a s.args.b (passed c.before) c.if1.false
+    let s = entry c.before in both_there (of s) s.args.a s.args.b (passed c.before) c.if1.false
 
-pub two-spec : {M : Type 1} → statement M
-two-spec = tie.close (tie.spec one-requires enum-known-judged returns enum_told returns-2 returns-3)
+pub two_spec : {M : Type 1} → statement M
+two_spec = tie.close (tie.spec one-requires enum-known-judged returns enum_told returns-2 returns-3)

@@ -6,11 +6,11 @@ use mathlib.Core.List.{List, [], ◌∷◌}
 use Rattle.answers.specs.Verdicts.{done_of}
 use Rattle.meaning.specs.Tables.{Table, table}
 use Rattle.meaning.specs.Ladder.{accepted, Record, record_of}
-use Rattle.meaning.specs.TypeCalls.{checkTableCall}
+use Rattle.meaning.specs.TypeCalls.{check_table_call}
 use Rattle.meaning.specs.Checked.{Sound}
-use Rattle.meaning.proofs.Ladders.{accepted-sound}
-use Rattle.checked_limits.specs.Limits.{limitAnswer, nodeLimit, recordLimit, limitsOf}
-use Rattle.checked_rungs.proofs.Asked.{handed-stop, handed-asked, no_record, reached, last-node, true-node}
+use Rattle.meaning.proofs.Ladders.{accepted_sound}
+use Rattle.checked_limits.specs.Limits.{limit_answer, node_limit, record_limit, limits_of}
+use Rattle.checked_rungs.proofs.Asked.{handed_stop, handed_asked, no_record, reached, last_node, true_node}
 use Rattle.checked_rungs.proofs.named.Statement.{statement}
 use Rattle.checked_rungs.proofs.named.Tie as tie
 
@@ -28,11 +28,11 @@ nodes s = s.args.node ∷ []
 abbrev start : tie.After-enum-told → tie.Start
 start c = c.before.before.before.before.before.before.before
 
-passed : (c : tie.After-enum-told) → checkTableCall (of (start c)) ≡ accepted (tt {0})
+passed : (c : tie.After-enum-told) → check_table_call (of (start c)) ≡ accepted (tt {0})
 passed c = sym c.before.before.sound.ensures ∙ ap done_of c.enum_told.given.1
 
 checked : (c : tie.After-enum-told) → Sound (of (start c))
-checked c = accepted-sound (of (start c)) (passed c)
+checked c = accepted_sound (of (start c)) (passed c)
 
 sound-requires : tie.Need-sound-requires
 sound-requires c κs = search rules
@@ -44,7 +44,7 @@ returns : tie.Need-returns
 returns c =
     let s = c.before.before.before.before.before.before.before.before in
     sym
-    (handed-stop (of s) (records s) (nodes s) c.before.judged.given.0.0.number c.before.judged.given.0.0.place
+    (handed_stop (of s) (records s) (nodes s) c.before.judged.given.0.0.number c.before.judged.given.0.0.place
     (sym (sym (ap done_of c.before.judged.given.1) ∙ c.before.before.before.sound.ensures)))
     ∙ no_record (of s) (nodes s)
 
@@ -64,8 +64,8 @@ returns-2 : tie.Need-returns-2
 returns-2 c =
     let e = c.before.before in
     let s = start e in
-    let least : _ ≡ limitsOf (of s) (records s) (nodes s) = (c.before.node-limit.ensures ∙ true-node (of s) (checked e) s.args.node) ∙ last-node (of s) s.args.node in
-    c.limited.ensures ∙ ap limitAnswer least ∙ sym (handed-asked (of s) (records s) (nodes s) (passed e)) ∙ no_record (of s) (nodes s)
+    let least : _ ≡ limits_of (of s) (records s) (nodes s) = (c.before.node-limit.ensures ∙ true_node (of s) (checked e) s.args.node) ∙ last_node (of s) s.args.node in
+    c.limited.ensures ∙ ap limit_answer least ∙ sym (handed_asked (of s) (records s) (nodes s) (passed e)) ∙ no_record (of s) (nodes s)
 
-pub named-spec : {M : Type 1} → statement M
-named-spec = tie.close (tie.spec sound-requires enum-known-judged returns enum_told node-limit-requires limited-requires returns-2)
+pub named_spec : {M : Type 1} → statement M
+named_spec = tie.close (tie.spec sound-requires enum-known-judged returns enum_told node-limit-requires limited-requires returns-2)

@@ -15,5 +15,5 @@ returns c =
     let a = c.before.before.before.before.before.args in
     c.named.ensures ∙ sym (no_record (table a.kinds.now a.lefts.now a.rights.now a.groups.now a.count) (a.result ∷ []))
 
-pub result-spec : {M : Type 1} → statement M
-result-spec = tie.close (tie.spec named-requires returns)
+pub result_spec : {M : Type 1} → statement M
+result_spec = tie.close (tie.spec named-requires returns)

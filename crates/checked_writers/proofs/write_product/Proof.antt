@@ -5,9 +5,9 @@ use native.Mathlib.Omega.{arith}
 use lib.ListN.{length, take, drop, length-drop}
 use borrow.Author.Rules.{rules}
 use Rattle.meaning.specs.Bits.{bits_of}
-use Rattle.bits.proofs.OfBytes.{are-bytes, length-bitsOf}
+use Rattle.bits.proofs.OfBytes.{are_bytes, length_bits_of}
 use Rattle.bits.proofs.Packed.{finished}
-use Rattle.checked_writers.proofs.Wholes.{product-length, product_whole}
+use Rattle.checked_writers.proofs.Wholes.{product_length, product_whole}
 use Rattle.checked_writers.proofs.write_product.Statement.{statement}
 use Rattle.checked_writers.proofs.write_product.Tie as tie
 
@@ -37,19 +37,19 @@ returns c =
     let v = drop a.a-from (bits_of a.a.now) in
     let u = drop a.b-from (bits_of a.b.now) in
     let fits = s.requires.0 in
-    let left : a.m ≤ length v = omega (arith, length-drop a.a-from (bits_of a.a.now), length-bitsOf a.a.now, s.requires) in
-    let right : a.whole - a.m ≤ length u = omega (arith, length-drop a.b-from (bits_of a.b.now), length-bitsOf a.b.now, s.requires) in
+    let left : a.m ≤ length v = omega (arith, length-drop a.a-from (bits_of a.a.now), length_bits_of a.a.now, s.requires) in
+    let right : a.whole - a.m ≤ length u = omega (arith, length-drop a.b-from (bits_of a.b.now), length_bits_of a.b.now, s.requires) in
     finished (take a.m v ++ take (a.whole - a.m) u) a.whole a.out.now second.new.1.1.0 done.new.0
-    (product-length a.whole a.m v u fits left right)
-    (are-bytes a.out.now b.slice-known.given)
-    (are-bytes done.new.0 c.slice-known4.given)
+    (product_length a.whole a.m v u fits left right)
+    (are_bytes a.out.now b.slice-known.given)
+    (are_bytes done.new.0 c.slice-known4.given)
     (product_whole a.whole a.m v u fits left right (bits_of a.out.now) (bits_of first.new.1.1.0) (bits_of second.new.1.1.0)
     first.ensures
     second.ensures)
     done.ensures
 
-pub write-product-spec : {M : Type 1} → statement M
-write-product-spec =
+pub write_product_spec : {M : Type 1} → statement M
+write_product_spec =
     tie.close
     (tie.spec
     copy-bits-requires

@@ -5,9 +5,9 @@ use native.Mathlib.Omega.{arith}
 use lib.ListN.{length, take, drop}
 use borrow.Author.Rules.{rules}
 use Rattle.meaning.specs.Bits.{bits_of}
-use Rattle.bits.proofs.OfBytes.{are-bytes, length-bitsOf}
+use Rattle.bits.proofs.OfBytes.{are_bytes, length_bits_of}
 use Rattle.bits.proofs.Packed.{finished}
-use Rattle.meaning.proofs.Pasted.{paste-take}
+use Rattle.meaning.proofs.Pasted.{paste_take}
 use Rattle.bits.proofs.Runs.{length_run}
 use Rattle.checked_writers.proofs.write_run.Statement.{statement}
 use Rattle.checked_writers.proofs.write_run.Tie as tie
@@ -26,13 +26,13 @@ returns c =
     let a = c.before.before.before.before.before.before.before.before.before.before.args in
     let copy = c.before.before.before.before.before.before.copy-bits in
     let done = c.before.before.finish in
-    let there : a.from + a.n ≤ length (bits_of a.src.now) = omega (arith, length-bitsOf a.src.now, c.before.before.before.before.before.before.before.before.before.before.requires.1.inside) in
+    let there : a.from + a.n ≤ length (bits_of a.src.now) = omega (arith, length_bits_of a.src.now, c.before.before.before.before.before.before.before.before.before.before.requires.1.inside) in
     finished (take a.n (drop a.from (bits_of a.src.now))) a.n a.out.now copy.new.1.1.0 done.new.0
     (length_run (bits_of a.src.now) a.from a.n there)
-    (are-bytes a.out.now c.before.before.before.before.before.before.before.before.before.slice-known.given)
-    (are-bytes done.new.0 c.slice-known3.given)
-    (copy.ensures ∙ sym (paste-take (bits_of a.out.now) 0 (drop a.from (bits_of a.src.now)) a.n))
+    (are_bytes a.out.now c.before.before.before.before.before.before.before.before.before.slice-known.given)
+    (are_bytes done.new.0 c.slice-known3.given)
+    (copy.ensures ∙ sym (paste_take (bits_of a.out.now) 0 (drop a.from (bits_of a.src.now)) a.n))
     done.ensures
 
-pub write-run-spec : {M : Type 1} → statement M
-write-run-spec = tie.close (tie.spec copy-bits-requires finish-requires same_length returns)
+pub write_run_spec : {M : Type 1} → statement M
+write_run_spec = tie.close (tie.spec copy-bits-requires finish-requires same_length returns)

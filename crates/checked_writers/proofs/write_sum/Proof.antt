@@ -5,9 +5,9 @@ use native.Mathlib.Omega.{arith}
 use lib.ListN.{length, take, drop, length-drop}
 use borrow.Author.Rules.{rules}
 use Rattle.meaning.specs.Bits.{bits_of, zeros}
-use Rattle.bits.proofs.OfBytes.{are-bytes, length-bitsOf}
+use Rattle.bits.proofs.OfBytes.{are_bytes, length_bits_of}
 use Rattle.bits.proofs.Packed.{finished}
-use Rattle.checked_writers.proofs.Wholes.{sum-length, sum-whole}
+use Rattle.checked_writers.proofs.Wholes.{sum_length, sum_whole}
 use Rattle.checked_writers.proofs.write_sum.Statement.{statement}
 use Rattle.checked_writers.proofs.write_sum.Tie as tie
 
@@ -45,21 +45,21 @@ returns c =
     let s = b.before in
     let a = s.args in
     let run = drop a.from (bits_of a.src.now) in
-    let there : a.n ≤ length run = omega (arith, length-drop a.from (bits_of a.src.now), length-bitsOf a.src.now, s.requires) in
+    let there : a.n ≤ length run = omega (arith, length-drop a.from (bits_of a.src.now), length_bits_of a.src.now, s.requires) in
     finished (a.tag ∷ (zeros (a.w - 1 - a.n) ++ take a.n run)) a.w a.out.now copied.new.1.1.0 done.new.0
-    (sum-length a.tag a.w a.n run s.requires.0 there)
-    (are-bytes a.out.now b.slice-known.given)
-    (are-bytes done.new.0 c.slice-known5.given)
-    (sum-whole a.tag a.w a.n run s.requires.0 there (bits_of a.out.now) (bits_of tagged.new.0) (bits_of cleared.new.0)
+    (sum_length a.tag a.w a.n run s.requires.0 there)
+    (are_bytes a.out.now b.slice-known.given)
+    (are_bytes done.new.0 c.slice-known5.given)
+    (sum_whole a.tag a.w a.n run s.requires.0 there (bits_of a.out.now) (bits_of tagged.new.0) (bits_of cleared.new.0)
     (bits_of copied.new.1.1.0)
-    (omega (arith, length-bitsOf a.out.now, s.requires))
+    (omega (arith, length_bits_of a.out.now, s.requires))
     tagged.ensures
     cleared.ensures
     copied.ensures)
     done.ensures
 
-pub write-sum-spec : {M : Type 1} → statement M
-write-sum-spec =
+pub write_sum_spec : {M : Type 1} → statement M
+write_sum_spec =
     tie.close
     (tie.spec
     put-bit-requires

@@ -3,7 +3,7 @@ use mathlib.Core.Bool.{false}
 use lib.ListN.{length-replicate}
 use borrow.Author.Rules.{rules}
 use Rattle.meaning.specs.Bits.{zeros}
-use Rattle.bits.proofs.OfBytes.{are-bytes}
+use Rattle.bits.proofs.OfBytes.{are_bytes}
 use Rattle.bits.proofs.Packed.{finished}
 use Rattle.checked_writers.proofs.write_zeros.Statement.{statement}
 use Rattle.checked_writers.proofs.write_zeros.Tie as tie
@@ -24,10 +24,10 @@ returns c =
     let entry = c.before.before.before.before.before.before.before.before.slice-known in
     let a = c.before.before.before.before.before.before.before.before.before.args in
     finished (zeros a.n) a.n a.out.now cleared.new.0 done.new.0 (length-replicate a.n false)
-    (are-bytes a.out.now entry.given)
-    (are-bytes done.new.0 c.slice-known3.given)
+    (are_bytes a.out.now entry.given)
+    (are_bytes done.new.0 c.slice-known3.given)
     cleared.ensures
     done.ensures
 
-pub write-zeros-spec : {M : Type 1} → statement M
-write-zeros-spec = tie.close (tie.spec clear-bits-requires finish-requires same_length returns)
+pub write_zeros_spec : {M : Type 1} → statement M
+write_zeros_spec = tie.close (tie.spec clear-bits-requires finish-requires same_length returns)

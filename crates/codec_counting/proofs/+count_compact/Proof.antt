@@ -13,12 +13,12 @@ use Rattle.meaning.specs.Types.{bits}
 use Rattle.meaning.specs.Tables.{Table, table, ty_at}
 use Rattle.meaning.specs.Bits.{bits_of}
 use Rattle.meaning.specs.Records.{compact}
-use Rattle.meaning.proofs.Records.{compact-most}
-use Rattle.bits.proofs.OfBytes.{length-bitsOf}
+use Rattle.meaning.proofs.Records.{compact_most}
+use Rattle.bits.proofs.OfBytes.{length_bits_of}
 use Rattle.bits.specs.Runs.{Run}
 use Rattle.checked.proofs.Nodes.{SideRead}
-use Rattle.codec_laws.proofs.Nodes.{NodeRead, Taken, side, taken, tag-inside, payload-run, first_run, second_run}
-use Rattle.codec_laws.proofs.Pieces.{node-run-length, node-tagged, node-both}
+use Rattle.codec_laws.proofs.Nodes.{NodeRead, Taken, side, taken, tag_inside, payload_run, first_run, second_run}
+use Rattle.codec_laws.proofs.Pieces.{node_run_length, node_tagged, node_both}
 use Rattle.codec_counting.proofs.count_compact.Reads as own
 use Rattle.codec_counting.proofs.count_compact.Kinds as kinds
 use Rattle.codec_counting.proofs.+count_compact.Lts-count_compact as lts
@@ -72,17 +72,17 @@ module _ (t : ℕ) (c : lts.After-node-at (called t) (given t) own.Post) where
 
   -- There are few compact bits.
   few : length (compact (ty_at of.columns start.args.node) (drop start.args.at stream)) ≤ 524288
-  few = omega (arith, compact-most (ty_at of.columns start.args.node) (drop start.args.at stream), start.pre.1.0.narrow)
+  few = omega (arith, compact_most (ty_at of.columns start.args.node) (drop start.args.at stream), start.pre.1.0.narrow)
 
 returns : (t : ℕ) → lts.Need-returns (called t) (given t) own.Post
 returns t c =
     let n = c.before.before in
     let b = start t n in
-    node-run-length (here t n) (stream t n) b.args.at (not-true n.Node-at.result.padded c.if1.true)
-    (omega (arith, b.pre.1.1.inside, length-bitsOf b.args.src.now))
+    node_run_length (here t n) (stream t n) b.args.at (not-true n.Node-at.result.padded c.if1.true)
+    (omega (arith, b.pre.1.1.inside, length_bits_of b.args.src.now))
 
 bit-at-requires : (t : ℕ) → lts.Need-bit-at-requires (called t) (given t) own.Post
-bit-at-requires t c κs = let n = c.before.before.before.before in tag-inside (here t n) (start t n).requires.1.1 c.if2.true
+bit-at-requires t c κs = let n = c.before.before.before.before in tag_inside (here t n) (start t n).requires.1.1 c.if2.true
 
 side-of-requires : (t : ℕ) → lts.Need-side-of-requires (called t) (given t) own.Post
 side-of-requires t c κs = search rules
@@ -92,16 +92,16 @@ module _ (t : ℕ) (c : lts.After-side-of (called t) (given t) own.Post) where
   abbrev tagged : lts.After-node-at (called t) (given t) own.Post
   tagged = c.before.before.before.before.before.before
 
-  sum-padded : tagged.Node-at.result.padded ≡ true
-  sum-padded = not-false tagged.Node-at.result.padded c.before.before.before.before.if1.false
+  sum_padded : tagged.Node-at.result.padded ≡ true
+  sum_padded = not-false tagged.Node-at.result.padded c.before.before.before.before.if1.false
 
   goes_on : Taken (of t tagged) (start t tagged).args.node tagged.Node-at.result c.side-of.result
-  goes_on = taken (here t tagged) sum-padded c.before.before.if2.true c.before.bit_at.result c.side-of.ensures
+  goes_on = taken (here t tagged) sum_padded c.before.before.if2.true c.before.bit_at.result c.side-of.ensures
 
   payload :
       Run (start t tagged).args.src.now ((start t tagged).args.at + (tagged.Node-at.result.width - c.side-of.result.width))
       (bits (ty_at (of t tagged).columns c.side-of.result.node))
-  payload = payload-run (here t tagged) (start t tagged).pre.1.1 sum-padded c.before.bit_at.result c.side-of.ensures
+  payload = payload_run (here t tagged) (start t tagged).pre.1.1 sum_padded c.before.bit_at.result c.side-of.ensures
 
 sub-count-compact : (t : ℕ) → lts.Need-overflow-sub-count-compact (called t) (given t) own.Post
 sub-count-compact t c = omega (arith, (goes_on t c.before.before).room)
@@ -120,7 +120,7 @@ returns-2 t c =
     let d = c.before.before.before in
     let n = tagged t d in
     let pieces =
-    node-tagged (here t n) (stream t n) (start t n).args.at (sum-padded t d) d.before.before.if2.true d.side-of.ensures
+    node_tagged (here t n) (stream t n) (start t n).args.at (sum_padded t d) d.before.before.if2.true d.side-of.ensures
     d.before.bit_at.ensures in
     omega (arith, c.count-compact.ensures, ap length pieces)
 
@@ -132,22 +132,22 @@ module _ (t : ℕ) (c : lts.Else2 (called t) (given t) own.Post) where
   abbrev parted : lts.After-node-at (called t) (given t) own.Post
   parted = c.before.before.before.before
 
-  product-padded : parted.Node-at.result.padded ≡ true
-  product-padded = not-false parted.Node-at.result.padded c.before.before.if1.false
+  product_padded : parted.Node-at.result.padded ≡ true
+  product_padded = not-false parted.Node-at.result.padded c.before.before.if1.false
 
   halves : (g : Bool) → SideRead (of t parted) (start t parted).args.node parted.Node-at.result g
-  halves = side (here t parted) product-padded
+  halves = side (here t parted) product_padded
 
   second :
       Run (start t parted).args.src.now ((start t parted).args.at + parted.Node-at.result.left_width)
       (bits (ty_at (of t parted).columns parted.Node-at.result.right))
-  second = second_run (here t parted) (start t parted).pre.1.1 product-padded c.if2.false
+  second = second_run (here t parted) (start t parted).pre.1.1 product_padded c.if2.false
 
 count-compact-requires-2 : (t : ℕ) → lts.Need-count-compact-requires-2 (called t) (given t) own.Post
 count-compact-requires-2 t c κs =
     let n = parted t c in
     let x = halves t c false in
-    (omega (arith, x.falls, (start t n).pre.0), (x.named, first_run (here t n) (start t n).pre.1.1 (product-padded t c)))
+    (omega (arith, x.falls, (start t n).pre.0), (x.named, first_run (here t n) (start t n).pre.1.1 (product_padded t c)))
 
 add-count-compact-2 : (t : ℕ) → lts.Need-overflow-add-count-compact-2 (called t) (given t) own.Post
 add-count-compact-2 t c = record { fits = omega (arith, (second t c.before).counted) }
@@ -162,7 +162,7 @@ returns-3 : (t : ℕ) → lts.Need-returns-3 (called t) (given t) own.Post
 returns-3 t c =
     let d = c.before.before in
     let n = parted t d in
-    let pieces = node-both (here t n) (stream t n) (start t n).args.at (product-padded t d) d.if2.false in
+    let pieces = node_both (here t n) (stream t n) (start t n).args.at (product_padded t d) d.if2.false in
     let joined = simp length-append at (ap length pieces) in
     omega (arith, c.before.count-compact2.ensures, c.count-compact3.ensures, joined)
 

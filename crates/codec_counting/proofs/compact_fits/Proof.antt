@@ -12,7 +12,7 @@ use Rattle.meaning.specs.Types.{Ty}
 use Rattle.meaning.specs.Tables.{columns, ty_at}
 use Rattle.meaning.specs.Bits.{bits_of, room}
 use Rattle.meaning.specs.Records.{compact}
-use Rattle.meaning.proofs.Records.{compact-most}
+use Rattle.meaning.proofs.Records.{compact_most}
 use Rattle.codec_counting.proofs.compact_fits.Statement.{statement}
 use Rattle.codec_counting.proofs.compact_fits.Tie as tie
 
@@ -32,7 +32,7 @@ module _ (c : tie.After-width-of) where
   all = compact type (drop start.args.at (bits_of start.args.src.now))
 
   most : length all ≤ c.width_of_lem.result
-  most = omega (arith, c.width_of_lem.ensures, compact-most type (drop start.args.at (bits_of start.args.src.now)))
+  most = omega (arith, c.width_of_lem.ensures, compact_most type (drop start.args.at (bits_of start.args.src.now)))
 
   narrow : c.width_of_lem.result ≤ 524288
   narrow = omega (arith, c.width_of_lem.ensures, start.pre.0.narrow)
@@ -58,6 +58,6 @@ returns-2 c =
     let n = c.before in
     ap (λ (k : ℕ). leb k (start n.before.before.before).args.space) (c.bytes-for2.ensures ∙ ap room n.count-compact.ensures)
 
-pub compact-fits-spec : {M : Type 1} → statement M
-compact-fits-spec =
+pub compact_fits_spec : {M : Type 1} → statement M
+compact_fits_spec =
     tie.close (tie.spec width-of-requires bytes-for-requires returns count-compact-requires bytes-for-requires-2 returns-2)

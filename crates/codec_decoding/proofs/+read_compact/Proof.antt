@@ -12,15 +12,15 @@ use lib.ListN.{length, take, drop, length-drop}
 use Rattle.meaning.specs.Types.{bits}
 use Rattle.meaning.specs.Tables.{Table, table, ty_at}
 use Rattle.meaning.specs.Bits.{bits_of}
-use Rattle.meaning.specs.Codecs.{Decoded, decoded, decodeCompact, isEarly, recordOf, consumed}
-use Rattle.bits.proofs.OfBytes.{length-bitsOf}
-use Rattle.laws.proofs.CodecRoundTrips.{compact-read-write}
+use Rattle.meaning.specs.Codecs.{Decoded, decoded, decode_compact, is_early, decoded_record, consumed}
+use Rattle.bits.proofs.OfBytes.{length_bits_of}
+use Rattle.laws.proofs.CodecRoundTrips.{compact_read_write}
 use Rattle.bits.specs.Runs.{Run}
 use Rattle.checked.proofs.Nodes.{SideRead}
-use Rattle.codec_laws.proofs.Nodes.{NodeRead, Taken, own-width, side, taken, first_run, second_run}
-use Rattle.codec_laws.proofs.Writing.{run-as, run-kept}
-use Rattle.codec_laws.proofs.Streams.{decode-run, decode-tagged, decode-both}
-use Rattle.codec_laws.proofs.Readings.{whole, run-enough, tag-enough, first-whole, Tagged, tagged-whole, Joined, joined-whole, read-run, read-tag, read-both}
+use Rattle.codec_laws.proofs.Nodes.{NodeRead, Taken, own_width, side, taken, first_run, second_run}
+use Rattle.codec_laws.proofs.Writing.{run_as, run_kept}
+use Rattle.codec_laws.proofs.Streams.{decode_run, decode_tagged, decode_both}
+use Rattle.codec_laws.proofs.Readings.{whole, run_enough, tag_enough, first_whole, Tagged, tagged_whole, Joined, joined_whole, read_run, read_tag, read_both}
 use Rattle.codec_decoding.proofs.read_compact.Reads as own
 use Rattle.codec_decoding.proofs.read_compact.Kinds as kinds
 use Rattle.codec_decoding.proofs.+read_compact.Lts-read_compact as lts
@@ -83,10 +83,10 @@ module _ (t : ℕ) (c : lts.After-node-at (called t) (given t) own.Post) where
 
   -- What is read, which is whole; where it lies, and the room for it.
   abbrev all : Decoded
-  all = decodeCompact (ty_at of.columns start.args.node) (drop start.args.at stream)
+  all = decode_compact (ty_at of.columns start.args.node) (drop start.args.at stream)
 
-  abbrev not-early : isEarly all ≡ false
-  not-early = start.pre.1.1.0
+  abbrev not_early : is_early all ≡ false
+  not_early = start.pre.1.1.0
 
   abbrev source : Run start.args.src.now start.args.at (consumed all)
   source = start.pre.1.1.1.0
@@ -94,8 +94,8 @@ module _ (t : ℕ) (c : lts.After-node-at (called t) (given t) own.Post) where
   abbrev place : Run start.args.out.now start.args.to (bits (ty_at of.columns start.args.node))
   place = start.pre.1.1.1.1
 
-  out-inside : start.args.to + bits (ty_at of.columns start.args.node) ≤ length (bits_of start.args.out.now)
-  out-inside = omega (arith, place.inside, length-bitsOf start.args.out.now)
+  out_inside : start.args.to + bits (ty_at of.columns start.args.node) ≤ length (bits_of start.args.out.now)
+  out_inside = omega (arith, place.inside, length_bits_of start.args.out.now)
 
 -- A node without padding.
 module _ (t : ℕ) (c : lts.Then1 (called t) (given t) own.Post) where
@@ -106,15 +106,15 @@ module _ (t : ℕ) (c : lts.Then1 (called t) (given t) own.Post) where
   unpadded = not-true single.Node-at.result.padded c.if1.true
 
   enough : single.Node-at.result.width ≤ length (stream t single) - (start t single).args.at
-  enough = run-enough (here t single) (stream t single) (start t single).args.at (not-early t single) unpadded
+  enough = run_enough (here t single) (stream t single) (start t single).args.at (not_early t single) unpadded
 
   run : all t single ≡ decoded (take single.Node-at.result.width (drop (start t single).args.at (stream t single))) single.Node-at.result.width
-  run = decode-run (here t single) (stream t single) (start t single).args.at unpadded enough
+  run = decode_run (here t single) (stream t single) (start t single).args.at unpadded enough
 
 copy-bits-requires : (t : ℕ) → lts.Need-copy-bits-requires (called t) (given t) own.Post
 copy-bits-requires t c κs =
     let n = single t c.before in
-    (run-as (sym (ap consumed (run t c.before))) (source t n), run-as (own-width (here t n)) (place t n))
+    (run_as (sym (ap consumed (run t c.before))) (source t n), run_as (own_width (here t n)) (place t n))
 
 add-result : (t : ℕ) → lts.Need-overflow-add-result (called t) (given t) own.Post
 add-result t c =
@@ -129,13 +129,13 @@ returns t c =
     let d = c.before.before.before.before in
     let n = single t d in
     let a = (start t n).args in
-    read-run (drop a.at (stream t n)) (run t d) (omega (arith, enough t d, length-drop a.at (stream t n))) c.before.before.copy-bits.ensures
+    read_run (drop a.at (stream t n)) (run t d) (omega (arith, enough t d, length-drop a.at (stream t n))) c.before.before.copy-bits.ensures
 
 bit-at-requires : (t : ℕ) → lts.Need-bit-at-requires (called t) (given t) own.Post
 bit-at-requires t c κs =
     let n = c.before.before.before.before in
     let a = (start t n).args in
-    omega (arith, tag-enough (here t n) (stream t n) a.at (not-early t n) c.if2.true, length-bitsOf a.src.now)
+    omega (arith, tag_enough (here t n) (stream t n) a.at (not_early t n) c.if2.true, length_bits_of a.src.now)
 
 side-of-requires : (t : ℕ) → lts.Need-side-of-requires (called t) (given t) own.Post
 side-of-requires t c κs = search rules
@@ -149,27 +149,27 @@ module _ (t : ℕ) (c : lts.After-side-of (called t) (given t) own.Post) where
   pad = tagged.Node-at.result.width - c.side-of.result.width - 1
 
   abbrev rest : Decoded
-  rest = decodeCompact (ty_at (of t tagged).columns c.side-of.result.node) (drop ((start t tagged).args.at + 1) (stream t tagged))
+  rest = decode_compact (ty_at (of t tagged).columns c.side-of.result.node) (drop ((start t tagged).args.at + 1) (stream t tagged))
 
-  sum-padded : tagged.Node-at.result.padded ≡ true
-  sum-padded = not-false tagged.Node-at.result.padded c.before.before.before.before.if1.false
+  sum_padded : tagged.Node-at.result.padded ≡ true
+  sum_padded = not-false tagged.Node-at.result.padded c.before.before.before.before.if1.false
 
   goes_on : Taken (of t tagged) (start t tagged).args.node tagged.Node-at.result c.side-of.result
-  goes_on = taken (here t tagged) sum-padded c.before.before.if2.true c.before.bit_at.result c.side-of.ensures
+  goes_on = taken (here t tagged) sum_padded c.before.before.if2.true c.before.bit_at.result c.side-of.ensures
 
   pieces : Tagged (all t tagged) rest c.before.bit_at.result pad
   pieces =
       let at = (start t tagged).args.at in
-      tagged-whole rest
-      (decode-tagged (here t tagged) (stream t tagged) at sum-padded c.before.before.if2.true
-      (tag-enough (here t tagged) (stream t tagged) at (not-early t tagged) c.before.before.if2.true)
+      tagged_whole rest
+      (decode_tagged (here t tagged) (stream t tagged) at sum_padded c.before.before.if2.true
+      (tag_enough (here t tagged) (stream t tagged) at (not_early t tagged) c.before.before.if2.true)
       c.side-of.ensures
       c.before.bit_at.ensures)
-      (not-early t tagged)
+      (not_early t tagged)
 
   room : (start t tagged).args.to + 1 + pad + bits (ty_at (of t tagged).columns c.side-of.result.node)
       ≡ (start t tagged).args.to + bits (ty_at (of t tagged).columns (start t tagged).args.node)
-  room = omega (arith, own-width (here t tagged), goes_on.room, goes_on.wide)
+  room = omega (arith, own_width (here t tagged), goes_on.room, goes_on.wide)
 
 sub-pad : (t : ℕ) → lts.Need-overflow-sub-pad (called t) (given t) own.Post
 sub-pad t c = omega (arith, (goes_on t c.before.before).room)
@@ -208,7 +208,7 @@ module _ (t : ℕ) (c : lts.After-clear-bits (called t) (given t) own.Post) wher
 add-read-compact : (t : ℕ) → lts.Need-overflow-add-read-compact (called t) (given t) own.Post
 add-read-compact t c =
     let d = put t (cleared t c.before.before) in
-    record { fits = omega (arith, (pieces t d).count-is, (source t (tagged t d)).counted) }
+    record { fits = omega (arith, (pieces t d).count_is, (source t (tagged t d)).counted) }
 
 add-read-compact-2 : (t : ℕ) → lts.Need-overflow-add-read-compact-2 (called t) (given t) own.Post
 add-read-compact-2 t c =
@@ -231,9 +231,9 @@ read-compact-requires t c κs =
       (
         x.named,
         (
-          g.payload-whole,
+          g.payload_whole,
           (
-            record { inside = omega (arith, i.inside, g.count-is); counted = omega (arith, i.counted, g.count-is) },
+            record { inside = omega (arith, i.inside, g.count_is); counted = omega (arith, i.counted, g.count_is) },
             record { inside = omega (arith, o.inside, room t d, kept t e); counted = omega (arith, o.counted, room t d) },
           ),
         ),
@@ -250,8 +250,8 @@ returns-2 t c =
     let p = cleared t e in
     let d = put t p in
     let n = tagged t d in
-    read-tag p.put-bit.last.0 (pieces t d) (omega (arith, room t d, out-inside t n))
-    (omega (arith, room t d, out-inside t n, p.put-bit.kept.0, length-bitsOf p.put-bit.last.0, length-bitsOf (start t n).args.out.now))
+    read_tag p.put-bit.last.0 (pieces t d) (omega (arith, room t d, out_inside t n))
+    (omega (arith, room t d, out_inside t n, p.put-bit.kept.0, length_bits_of p.put-bit.last.0, length_bits_of (start t n).args.out.now))
     p.put-bit.ensures
     e.clear-bits.ensures
     c.before.before.read-compact.ensures
@@ -262,42 +262,42 @@ module _ (t : ℕ) (c : lts.Else2 (called t) (given t) own.Post) where
   parted = c.before.before.before.before
 
   abbrev front : Decoded
-  front = decodeCompact (ty_at (of t parted).columns parted.Node-at.result.left) (drop (start t parted).args.at (stream t parted))
+  front = decode_compact (ty_at (of t parted).columns parted.Node-at.result.left) (drop (start t parted).args.at (stream t parted))
 
   -- The second part, read from bit k on.
   abbrev back : ℕ → Decoded
-  back k = decodeCompact (ty_at (of t parted).columns parted.Node-at.result.right) (drop k (stream t parted))
+  back k = decode_compact (ty_at (of t parted).columns parted.Node-at.result.right) (drop k (stream t parted))
 
-  product-padded : parted.Node-at.result.padded ≡ true
-  product-padded = not-false parted.Node-at.result.padded c.before.before.if1.false
+  product_padded : parted.Node-at.result.padded ≡ true
+  product_padded = not-false parted.Node-at.result.padded c.before.before.if1.false
 
   halves : (g : Bool) → SideRead (of t parted) (start t parted).args.node parted.Node-at.result g
-  halves = side (here t parted) product-padded
+  halves = side (here t parted) product_padded
 
-  front-whole : isEarly front ≡ false
-  front-whole =
-      first-whole (here t parted) (stream t parted) (start t parted).args.at (not-early t parted) product-padded c.if2.false
+  front_whole : is_early front ≡ false
+  front_whole =
+      first_whole (here t parted) (stream t parted) (start t parted).args.at (not_early t parted) product_padded c.if2.false
 
-  joined : Joined (all t parted) (recordOf front) (consumed front) (back ((start t parted).args.at + consumed front))
+  joined : Joined (all t parted) (decoded_record front) (consumed front) (back ((start t parted).args.at + consumed front))
   joined =
-      joined-whole (back ((start t parted).args.at + consumed front))
-      (decode-both (here t parted) (stream t parted) (start t parted).args.at product-padded c.if2.false (whole front-whole))
-      (not-early t parted)
+      joined_whole (back ((start t parted).args.at + consumed front))
+      (decode_both (here t parted) (stream t parted) (start t parted).args.at product_padded c.if2.false (whole front_whole))
+      (not_early t parted)
 
-  front-wide : parted.Node-at.result.left_width ≡ length (recordOf front)
-  front-wide =
+  front_wide : parted.Node-at.result.left_width ≡ length (decoded_record front)
+  front_wide =
       (halves false).wide
       ∙ sym
-      (compact-read-write (ty_at (of t parted).columns parted.Node-at.result.left) (drop (start t parted).args.at (stream t parted))
-      (recordOf front)
+      (compact_read_write (ty_at (of t parted).columns parted.Node-at.result.left) (drop (start t parted).args.at (stream t parted))
+      (decoded_record front)
       (consumed front)
-      (whole front-whole)
+      (whole front_whole)
       ).as_wide
 
-  back-room :
+  back_room :
       Run (start t parted).args.out.now ((start t parted).args.to + parted.Node-at.result.left_width)
       (bits (ty_at (of t parted).columns parted.Node-at.result.right))
-  back-room = second_run (here t parted) (place t parted) product-padded c.if2.false
+  back_room = second_run (here t parted) (place t parted) product_padded c.if2.false
 
 read-compact-requires-2 : (t : ℕ) → lts.Need-read-compact-requires-2 (called t) (given t) own.Post
 read-compact-requires-2 t c κs =
@@ -310,10 +310,10 @@ read-compact-requires-2 t c κs =
       (
         x.named,
         (
-          front-whole t d,
+          front_whole t d,
           (
-            record { inside = omega (arith, i.inside, g.count-is); counted = omega (arith, i.counted, g.count-is) },
-            first_run (here t n) (place t n) (product-padded t d),
+            record { inside = omega (arith, i.inside, g.count_is); counted = omega (arith, i.counted, g.count_is) },
+            first_run (here t n) (place t n) (product_padded t d),
           ),
         ),
       ),
@@ -325,14 +325,14 @@ module _ (t : ℕ) (c : lts.After-read-compact2 (called t) (given t) own.Post) w
   divided = c.before.before
 
   -- The second part, read from the bit on that the first has ended at.
-  continued : Joined (all t (parted t divided)) (recordOf (front t divided)) (consumed (front t divided)) (back t divided c.read-compact2.result)
+  continued : Joined (all t (parted t divided)) (decoded_record (front t divided)) (consumed (front t divided)) (back t divided c.read-compact2.result)
   continued =
-      subst (λ (k : ℕ). Joined (all t (parted t divided)) (recordOf (front t divided)) (consumed (front t divided)) (back t divided k))
+      subst (λ (k : ℕ). Joined (all t (parted t divided)) (decoded_record (front t divided)) (consumed (front t divided)) (back t divided k))
       (sym c.read-compact2.ensures.consumes)
       (joined t divided)
 
 add-read-compact-4 : (t : ℕ) → lts.Need-overflow-add-read-compact-4 (called t) (given t) own.Post
-add-read-compact-4 t c = record { fits = omega (arith, (back-room t (divided t c.before.before.before)).counted) }
+add-read-compact-4 t c = record { fits = omega (arith, (back_room t (divided t c.before.before.before)).counted) }
 
 read-compact-requires-3 : (t : ℕ) → lts.Need-read-compact-requires-3 (called t) (given t) own.Post
 read-compact-requires-3 t c κs =
@@ -347,10 +347,10 @@ read-compact-requires-3 t c κs =
       (
         x.named,
         (
-          g.second-whole,
+          g.second_whole,
           (
-            record { inside = omega (arith, i.inside, g.count-is, ends); counted = omega (arith, i.counted, g.count-is, ends) },
-            run-kept e.read-compact2.auto.1.1.1.1.1.1.1.1.0 (back-room t d),
+            record { inside = omega (arith, i.inside, g.count_is, ends); counted = omega (arith, i.counted, g.count_is, ends) },
+            run_kept e.read-compact2.auto.1.1.1.1.1.1.1.1.0 (back_room t d),
           ),
         ),
       ),
@@ -366,7 +366,7 @@ returns-3 t c =
     let e = c.before.before.before.before.before.before in
     let d = divided t e in
     let n = parted t d in
-    read-both (continued t e) (omega (arith, out-inside t n)) (ap (λ (k : ℕ). (start t n).args.to + k) (front-wide t d)) e.read-compact2.ensures
+    read_both (continued t e) (omega (arith, out_inside t n)) (ap (λ (k : ℕ). (start t n).args.to + k) (front_wide t d)) e.read-compact2.ensures
     c.before.before.read-compact3.ensures
 
 pub +read-compact-spec : {M : Type 1} → statement M

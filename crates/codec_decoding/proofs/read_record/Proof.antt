@@ -5,10 +5,10 @@ use borrow.Author.Rules.{rules}
 use lib.ListN.{drop}
 use Rattle.meaning.specs.Tables.{columns, ty_at}
 use Rattle.meaning.specs.Bits.{bits_of}
-use Rattle.meaning.specs.Codecs.{Decoded, decodeCompact, recordOf, consumed}
-use Rattle.bits.proofs.OfBytes.{are-bytes}
-use Rattle.laws.proofs.CodecRoundTrips.{compact-read-write}
-use Rattle.codec_laws.proofs.Writing.{wrote-finished}
+use Rattle.meaning.specs.Codecs.{Decoded, decode_compact, decoded_record, consumed}
+use Rattle.bits.proofs.OfBytes.{are_bytes}
+use Rattle.laws.proofs.CodecRoundTrips.{compact_read_write}
+use Rattle.codec_laws.proofs.Writing.{wrote_finished}
 use Rattle.codec_laws.proofs.Readings.{whole}
 use Rattle.codec_decoding.proofs.read_record.Statement.{statement}
 use Rattle.codec_decoding.proofs.read_record.Tie as tie
@@ -40,15 +40,15 @@ returns c =
     let a = b.args in
     let type = ty_at (columns a.kinds.now a.lefts.now a.rights.now) a.node in
     let rest = drop a.at (bits_of a.src.now) in
-    let read : Decoded = decodeCompact type rest in
-    let wide = (compact-read-write type rest (recordOf read) (consumed read) (whole b.pre.1.0)).as_wide in (
+    let read : Decoded = decode_compact type rest in
+    let wide = (compact_read_write type rest (decoded_record read) (consumed read) (whole b.pre.1.0)).as_wide in (
       put.read-compact.ensures.consumes,
-      wrote-finished put.read-compact.ensures.wrote (sized.width_of_lem.ensures ∙ sym wide)
-          (are-bytes a.out.now put.before.before.slice-known.given)
-          (are-bytes c.before.before.finish.new.0 c.slice-known3.given)
+      wrote_finished put.read-compact.ensures.wrote (sized.width_of_lem.ensures ∙ sym wide)
+          (are_bytes a.out.now put.before.before.slice-known.given)
+          (are_bytes c.before.before.finish.new.0 c.slice-known3.given)
           c.before.before.finish.ensures,
     )
 
-pub read-record-spec : {M : Type 1} → statement M
-read-record-spec =
+pub read_record_spec : {M : Type 1} → statement M
+read_record_spec =
     tie.close (tie.spec read-compact-requires width-of-requires finish-requires same_length returns)

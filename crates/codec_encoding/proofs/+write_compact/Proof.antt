@@ -13,12 +13,12 @@ use Rattle.meaning.specs.Types.{bits}
 use Rattle.meaning.specs.Tables.{Table, table, ty_at}
 use Rattle.meaning.specs.Bits.{bits_of}
 use Rattle.meaning.specs.Records.{compact}
-use Rattle.bits.proofs.OfBytes.{length-bitsOf}
+use Rattle.bits.proofs.OfBytes.{length_bits_of}
 use Rattle.bits.specs.Runs.{Run}
 use Rattle.checked.proofs.Nodes.{SideRead}
-use Rattle.codec_laws.proofs.Nodes.{NodeRead, Taken, own-width, side, taken, tag-inside, payload-run, first_run, second_run}
-use Rattle.codec_laws.proofs.Pieces.{node-run, node-run-length, node-tagged, node-both}
-use Rattle.codec_laws.proofs.Writing.{run-as, run-front, run-back, wrote-run, wrote-tag, wrote-both, wrote}
+use Rattle.codec_laws.proofs.Nodes.{NodeRead, Taken, own_width, side, taken, tag_inside, payload_run, first_run, second_run}
+use Rattle.codec_laws.proofs.Pieces.{node_run, node_run_length, node_tagged, node_both}
+use Rattle.codec_laws.proofs.Writing.{run_as, run_front, run_back, wrote_run, wrote_tag, wrote_both, wrote}
 use Rattle.codec_encoding.proofs.write_compact.Reads as own
 use Rattle.codec_encoding.proofs.write_compact.Kinds as kinds
 use Rattle.codec_encoding.proofs.+write_compact.Lts-write_compact as lts
@@ -81,10 +81,10 @@ module _ (t : ℕ) (c : lts.After-node-at (called t) (given t) own.Post) where
   all = compact (ty_at of.columns start.args.node) (drop start.args.at stream)
 
   inside : start.args.at + bits (ty_at of.columns start.args.node) ≤ length stream
-  inside = omega (arith, start.pre.1.1.0.inside, length-bitsOf start.args.src.now)
+  inside = omega (arith, start.pre.1.1.0.inside, length_bits_of start.args.src.now)
 
-  out-inside : start.args.to + length all ≤ length (bits_of start.args.out.now)
-  out-inside = omega (arith, start.pre.1.1.1.inside, length-bitsOf start.args.out.now)
+  out_inside : start.args.to + length all ≤ length (bits_of start.args.out.now)
+  out_inside = omega (arith, start.pre.1.1.1.inside, length_bits_of start.args.out.now)
 
 -- A node without padding.
 module _ (t : ℕ) (c : lts.Then1 (called t) (given t) own.Post) where
@@ -93,14 +93,14 @@ module _ (t : ℕ) (c : lts.Then1 (called t) (given t) own.Post) where
 
   run_length : single.Node-at.result.width ≡ length (all t single)
   run_length =
-      node-run-length (here t single) (stream t single) (start t single).args.at (not-true single.Node-at.result.padded c.if1.true)
+      node_run_length (here t single) (stream t single) (start t single).args.at (not-true single.Node-at.result.padded c.if1.true)
       (inside t single)
 
 copy-bits-requires : (t : ℕ) → lts.Need-copy-bits-requires (called t) (given t) own.Post
 copy-bits-requires t c κs =
     let n = single t c.before in
     let b = start t n in
-    (run-as (own-width (here t n)) b.pre.1.1.0, run-as (run_length t c.before) b.pre.1.1.1)
+    (run_as (own_width (here t n)) b.pre.1.1.0, run_as (run_length t c.before) b.pre.1.1.1)
 
 add-result : (t : ℕ) → lts.Need-overflow-add-result (called t) (given t) own.Post
 add-result t c =
@@ -115,13 +115,13 @@ returns t c =
     let d = c.before.before.before.before in
     let n = single t d in
     let a = (start t n).args in
-    wrote-run (drop a.at (stream t n))
-    (node-run (here t n) (stream t n) a.at (not-true n.Node-at.result.padded d.if1.true) (inside t n))
+    wrote_run (drop a.at (stream t n))
+    (node_run (here t n) (stream t n) a.at (not-true n.Node-at.result.padded d.if1.true) (inside t n))
     (run_length t d)
     c.before.before.copy-bits.ensures
 
 bit-at-requires : (t : ℕ) → lts.Need-bit-at-requires (called t) (given t) own.Post
-bit-at-requires t c κs = let n = c.before.before.before.before in tag-inside (here t n) (start t n).requires.1.1.0 c.if2.true
+bit-at-requires t c κs = let n = c.before.before.before.before in tag_inside (here t n) (start t n).requires.1.1.0 c.if2.true
 
 side-of-requires : (t : ℕ) → lts.Need-side-of-requires (called t) (given t) own.Post
 side-of-requires t c κs = search rules
@@ -137,18 +137,18 @@ module _ (t : ℕ) (c : lts.After-side-of (called t) (given t) own.Post) where
   abbrev rest : List Bool
   rest = compact (ty_at (of t tagged).columns c.side-of.result.node) (drop payload-at (stream t tagged))
 
-  sum-padded : tagged.Node-at.result.padded ≡ true
-  sum-padded = not-false tagged.Node-at.result.padded c.before.before.before.before.if1.false
+  sum_padded : tagged.Node-at.result.padded ≡ true
+  sum_padded = not-false tagged.Node-at.result.padded c.before.before.before.before.if1.false
 
   goes_on : Taken (of t tagged) (start t tagged).args.node tagged.Node-at.result c.side-of.result
-  goes_on = taken (here t tagged) sum-padded c.before.before.if2.true c.before.bit_at.result c.side-of.ensures
+  goes_on = taken (here t tagged) sum_padded c.before.before.if2.true c.before.bit_at.result c.side-of.ensures
 
   payload : Run (start t tagged).args.src.now payload-at (bits (ty_at (of t tagged).columns c.side-of.result.node))
-  payload = payload-run (here t tagged) (start t tagged).pre.1.1.0 sum-padded c.before.bit_at.result c.side-of.ensures
+  payload = payload_run (here t tagged) (start t tagged).pre.1.1.0 sum_padded c.before.bit_at.result c.side-of.ensures
 
   pieces : all t tagged ≡ c.before.bit_at.result ∷ rest
   pieces =
-      node-tagged (here t tagged) (stream t tagged) (start t tagged).args.at sum-padded c.before.before.if2.true c.side-of.ensures
+      node_tagged (here t tagged) (stream t tagged) (start t tagged).args.at sum_padded c.before.before.if2.true c.side-of.ensures
       c.before.bit_at.ensures
 
 put-bit-requires : (t : ℕ) → lts.Need-put-bit-requires (called t) (given t) own.Post
@@ -162,7 +162,7 @@ module _ (t : ℕ) (c : lts.After-put-bit (called t) (given t) own.Post) where
 
   left_over : Run c.put-bit.new.0 ((start t (tagged t put)).args.to + 1) (length (rest t put))
   left_over =
-      run-back (put.before.bit_at.result ∷ []) (rest t put) (start t (tagged t put)).pre.1.1.1 (pieces t put) c.put-bit.auto.0 refl
+      run_back (put.before.bit_at.result ∷ []) (rest t put) (start t (tagged t put)).pre.1.1.1 (pieces t put) c.put-bit.auto.0 refl
 
 sub-write-compact : (t : ℕ) → lts.Need-overflow-sub-write-compact (called t) (given t) own.Post
 sub-write-compact t c = omega (arith, (goes_on t (put t c.before.before.before.before)).room)
@@ -189,7 +189,7 @@ returns-2 t c =
     let p = c.before.before.before.before.before.before.before.before in
     let d = put t p in
     wrote (pieces t d)
-    (wrote-tag (omega (arith, out-inside t (tagged t d), ap length (pieces t d))) p.put-bit.ensures c.before.before.write-compact.ensures)
+    (wrote_tag (omega (arith, out_inside t (tagged t d), ap length (pieces t d))) p.put-bit.ensures c.before.before.write-compact.ensures)
 
 -- The parts of a product, where they lie, and what is to be written.
 module _ (t : ℕ) (c : lts.Else2 (called t) (given t) own.Post) where
@@ -205,17 +205,17 @@ module _ (t : ℕ) (c : lts.Else2 (called t) (given t) own.Post) where
   abbrev back : List Bool
   back = compact (ty_at (of t parted).columns parted.Node-at.result.right) (drop second_at (stream t parted))
 
-  product-padded : parted.Node-at.result.padded ≡ true
-  product-padded = not-false parted.Node-at.result.padded c.before.before.if1.false
+  product_padded : parted.Node-at.result.padded ≡ true
+  product_padded = not-false parted.Node-at.result.padded c.before.before.if1.false
 
   halves : (g : Bool) → SideRead (of t parted) (start t parted).args.node parted.Node-at.result g
-  halves = side (here t parted) product-padded
+  halves = side (here t parted) product_padded
 
   second : Run (start t parted).args.src.now second_at (bits (ty_at (of t parted).columns parted.Node-at.result.right))
-  second = second_run (here t parted) (start t parted).pre.1.1.0 product-padded c.if2.false
+  second = second_run (here t parted) (start t parted).pre.1.1.0 product_padded c.if2.false
 
   joined : all t parted ≡ front ++ back
-  joined = node-both (here t parted) (stream t parted) (start t parted).args.at product-padded c.if2.false
+  joined = node_both (here t parted) (stream t parted) (start t parted).args.at product_padded c.if2.false
 
 write-compact-requires-2 : (t : ℕ) → lts.Need-write-compact-requires-2 (called t) (given t) own.Post
 write-compact-requires-2 t c κs =
@@ -226,7 +226,7 @@ write-compact-requires-2 t c κs =
       omega (arith, x.falls, b.pre.0),
       (
         x.named,
-        (first_run (here t n) b.pre.1.1.0 (product-padded t d), run-front (front t d) (back t d) b.pre.1.1.1 (joined t d)),
+        (first_run (here t n) b.pre.1.1.0 (product_padded t d), run_front (front t d) (back t d) b.pre.1.1.1 (joined t d)),
       ),
     )
 
@@ -242,7 +242,7 @@ write-compact-requires-3 t c κs =
       omega (arith, x.falls, b.pre.0),
       (
         x.named,
-        (second t d, run-back (front t d) (back t d) b.pre.1.1.1 (joined t d) w.auto.1.1.1.1.1.1.1.1.0 w.ensures.ends),
+        (second t d, run_back (front t d) (back t d) b.pre.1.1.1 (joined t d) w.auto.1.1.1.1.1.1.1.1.0 w.ensures.ends),
       ),
     )
 
@@ -255,7 +255,7 @@ returns-3 : (t : ℕ) → lts.Need-returns-3 (called t) (given t) own.Post
 returns-3 t c =
     let e = c.before.before.before.before.before.before in
     let d = e.before.before in
-    wrote (joined t d) (wrote-both (omega (arith, out-inside t (parted t d))) e.write-compact2.ensures c.before.before.write-compact3.ensures)
+    wrote (joined t d) (wrote_both (omega (arith, out_inside t (parted t d))) e.write-compact2.ensures c.before.before.write-compact3.ensures)
 
 pub +write-compact-spec : {M : Type 1} → statement M
 +write-compact-spec =

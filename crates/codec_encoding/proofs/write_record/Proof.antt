@@ -6,8 +6,8 @@ use lib.ListN.{length, drop}
 use Rattle.meaning.specs.Tables.{columns, ty_at}
 use Rattle.meaning.specs.Bits.{bits_of}
 use Rattle.meaning.specs.Records.{compact}
-use Rattle.bits.proofs.OfBytes.{are-bytes}
-use Rattle.codec_laws.proofs.Writing.{wrote-finished}
+use Rattle.bits.proofs.OfBytes.{are_bytes}
+use Rattle.codec_laws.proofs.Writing.{wrote_finished}
 use Rattle.codec_encoding.proofs.write_record.Statement.{statement}
 use Rattle.codec_encoding.proofs.write_record.Tie as tie
 
@@ -28,10 +28,10 @@ returns c =
     let all = compact (ty_at (columns a.kinds.now a.lefts.now a.rights.now) a.node) (drop a.at (bits_of a.src.now)) in
     let counted = put.write-compact.ensures.ends ∙ zero-add (length all) in (
       counted,
-      wrote-finished put.write-compact.ensures counted (are-bytes a.out.now known.slice-known.given)
-          (are-bytes c.before.before.finish.new.0 c.slice-known3.given)
+      wrote_finished put.write-compact.ensures counted (are_bytes a.out.now known.slice-known.given)
+          (are_bytes c.before.before.finish.new.0 c.slice-known3.given)
           c.before.before.finish.ensures,
     )
 
-pub write-record-spec : {M : Type 1} → statement M
-write-record-spec = tie.close (tie.spec write-compact-requires finish-requires same_length returns)
+pub write_record_spec : {M : Type 1} → statement M
+write_record_spec = tie.close (tie.spec write-compact-requires finish-requires same_length returns)

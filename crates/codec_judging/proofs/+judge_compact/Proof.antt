@@ -12,14 +12,14 @@ use lib.ListN.{length, take, drop, length-drop}
 use lib.Seq.{length-take-le, get_or-take}
 use Rattle.meaning.specs.Tables.{Table, table, ty_at}
 use Rattle.meaning.specs.Bits.{bits_of}
-use Rattle.meaning.specs.Codecs.{Decoded, recordOf, consumed, decodeCompact}
-use Rattle.bits.proofs.OfBytes.{length-bitsOf}
-use Rattle.laws.proofs.CodecRoundTrips.{compact-read-write}
+use Rattle.meaning.specs.Codecs.{Decoded, decoded_record, consumed, decode_compact}
+use Rattle.bits.proofs.OfBytes.{length_bits_of}
+use Rattle.laws.proofs.CodecRoundTrips.{compact_read_write}
 use Rattle.codec_judging.specs.Ends.{end_of}
 use Rattle.checked.proofs.Nodes.{SideRead}
 use Rattle.codec_laws.proofs.Nodes.{NodeRead, Taken, side, taken}
-use Rattle.codec_laws.proofs.Streams.{under, decode-short, decode-run, decode-none, decode-tagged, decode-first-early, decode-both}
-use Rattle.codec_judging.proofs.Ends.{EndsAt, end-tagged, end_after, end-at, end-early}
+use Rattle.codec_laws.proofs.Streams.{under, decode_short, decode_run, decode_none, decode_tagged, decode_first_early, decode_both}
+use Rattle.codec_judging.proofs.Ends.{EndsAt, end_tagged, end_after, end_at, end_early}
 use Rattle.codec_judging.proofs.judge_compact.Reads as own
 use Rattle.codec_judging.proofs.judge_compact.Kinds as kinds
 use Rattle.codec_judging.proofs.+judge_compact.Lts-judge_compact as lts
@@ -72,13 +72,13 @@ module _ (t : ℕ) (c : lts.After-node-at (called t) (given t) own.Post) where
   abbrev stream : List Bool
   stream = take start.args.until (bits_of start.args.src.now)
 
-  stream-length : length stream ≡ start.args.until
-  stream-length =
-      length-take-le start.args.until (bits_of start.args.src.now) (omega (arith, start.pre.1.1.1, length-bitsOf start.args.src.now))
+  stream_length : length stream ≡ start.args.until
+  stream_length =
+      length-take-le start.args.until (bits_of start.args.src.now) (omega (arith, start.pre.1.1.1, length_bits_of start.args.src.now))
 
   -- What is read at the node, and where that ends if it is known.
   abbrev read : Decoded
-  read = decodeCompact (ty_at of.columns start.args.node) (drop start.args.at stream)
+  read = decode_compact (ty_at of.columns start.args.node) (drop start.args.at stream)
 
   ends : {d : Decoded} → read ≡ d → end_of start.args.at d ≡ end_of start.args.at read
   ends e = ap (end_of start.args.at) (sym e)
@@ -90,8 +90,8 @@ returns : (t : ℕ) → lts.Need-returns (called t) (given t) own.Post
 returns t c =
     let n = c.before.before.before in
     ends t n
-    (decode-short (here t n) (stream t n) (start t n).args.at (not-true n.Node-at.result.padded c.before.if1.true)
-    (omega (arith, stream-length t n, c.if2.true)))
+    (decode_short (here t n) (stream t n) (start t n).args.at (not-true n.Node-at.result.padded c.before.if1.true)
+    (omega (arith, stream_length t n, c.if2.true)))
 
 add-t15 : (t : ℕ) → lts.Need-overflow-add-t15 (called t) (given t) own.Post
 add-t15 t c =
@@ -102,14 +102,14 @@ returns-2 : (t : ℕ) → lts.Need-returns-2 (called t) (given t) own.Post
 returns-2 t c =
     let n = c.before.before.before in
     ends t n
-    (decode-run (here t n) (stream t n) (start t n).args.at (not-true n.Node-at.result.padded c.before.if1.true)
-    (omega (arith, stream-length t n, c.if2.false)))
+    (decode_run (here t n) (stream t n) (start t n).args.at (not-true n.Node-at.result.padded c.before.if1.true)
+    (omega (arith, stream_length t n, c.if2.false)))
 
 returns-3 : (t : ℕ) → lts.Need-returns-3 (called t) (given t) own.Post
 returns-3 t c =
     let n = c.before.before.before.before.before in
     ends t n
-    (decode-none (here t n) (stream t n) (start t n).args.at c.before.if3.true (omega (arith, stream-length t n, c.if4.true)))
+    (decode_none (here t n) (stream t n) (start t n).args.at c.before.if3.true (omega (arith, stream_length t n, c.if4.true)))
 
 bit-at-requires : (t : ℕ) → lts.Need-bit-at-requires (called t) (given t) own.Post
 bit-at-requires t c κs =
@@ -123,11 +123,11 @@ module _ (t : ℕ) (c : lts.After-side-of (called t) (given t) own.Post) where
   abbrev tagged : lts.After-node-at (called t) (given t) own.Post
   tagged = c.before.before.before.before.before.before.before
 
-  sum-padded : tagged.Node-at.result.padded ≡ true
-  sum-padded = not-false tagged.Node-at.result.padded c.before.before.before.before.before.if1.false
+  sum_padded : tagged.Node-at.result.padded ≡ true
+  sum_padded = not-false tagged.Node-at.result.padded c.before.before.before.before.before.if1.false
 
   goes_on : Taken (of t tagged) (start t tagged).args.node tagged.Node-at.result c.side-of.result
-  goes_on = taken (here t tagged) sum-padded c.before.before.before.if3.true c.before.bit_at.result c.side-of.ensures
+  goes_on = taken (here t tagged) sum_padded c.before.before.before.if3.true c.before.bit_at.result c.side-of.ensures
 
   more : (start t tagged).args.at < (start t tagged).args.until
   more = omega (arith, (start t tagged).pre.1.1.0, c.before.before.if4.false)
@@ -147,12 +147,12 @@ returns-4 t c =
     let n = tagged t d in
     let a = (start t n).args in
     let tag = d.before.bit_at.result in
-    let payload = decodeCompact (ty_at (of t n).columns d.side-of.result.node) (drop (a.at + 1) (stream t n)) in
+    let payload = decode_compact (ty_at (of t n).columns d.side-of.result.node) (drop (a.at + 1) (stream t n)) in
     c.judge-compact.ensures
-    ∙ end-tagged a.at (under tag (n.Node-at.result.width - d.side-of.result.width - 1)) payload
+    ∙ end_tagged a.at (under tag (n.Node-at.result.width - d.side-of.result.width - 1)) payload
     ∙ ends t n
-    (decode-tagged (here t n) (stream t n) a.at (sum-padded t d) d.before.before.before.if3.true
-    (omega (arith, more t d, stream-length t n))
+    (decode_tagged (here t n) (stream t n) a.at (sum_padded t d) d.before.before.before.if3.true
+    (omega (arith, more t d, stream_length t n))
     d.side-of.ensures
     (d.before.bit_at.ensures ∙ sym (get_or-take a.until (bits_of a.src.now) a.at false (more t d))))
 
@@ -163,13 +163,13 @@ module _ (t : ℕ) (c : lts.Else3 (called t) (given t) own.Post) where
 
   -- What is read of the first.
   abbrev front : Decoded
-  front = decodeCompact (ty_at (of t parted).columns parted.Node-at.result.left) (drop (start t parted).args.at (stream t parted))
+  front = decode_compact (ty_at (of t parted).columns parted.Node-at.result.left) (drop (start t parted).args.at (stream t parted))
 
-  product-padded : parted.Node-at.result.padded ≡ true
-  product-padded = not-false parted.Node-at.result.padded c.before.before.if1.false
+  product_padded : parted.Node-at.result.padded ≡ true
+  product_padded = not-false parted.Node-at.result.padded c.before.before.if1.false
 
   halves : (g : Bool) → SideRead (of t parted) (start t parted).args.node parted.Node-at.result g
-  halves = side (here t parted) product-padded
+  halves = side (here t parted) product_padded
 
 judge-compact-requires-2 : (t : ℕ) → lts.Need-judge-compact-requires-2 (called t) (given t) own.Post
 judge-compact-requires-2 t c κs =
@@ -190,7 +190,7 @@ module _ (t : ℕ) (c : lts.After-next (called t) (given t) own.Post) where
 
   ended : EndsAt (start t (parted t divided)).args.at c.next.given.0.0 (front t divided)
   ended =
-      end-at (start t (parted t divided)).args.at c.next.given.0.0 (front t divided)
+      end_at (start t (parted t divided)).args.at c.next.given.0.0 (front t divided)
       (sym c.next.given.1 ∙ c.before.before.judge-compact2.ensures)
 
   within : c.next.given.0.0 ≤ (start t (parted t divided)).args.until
@@ -201,9 +201,9 @@ module _ (t : ℕ) (c : lts.After-next (called t) (given t) own.Post) where
       let rest = drop b.args.at (stream t n) in
       omega (
         arith,
-        (compact-read-write (ty_at (of t n).columns n.Node-at.result.left) rest (recordOf first) (consumed first) ended.whole).enough,
+        (compact_read_write (ty_at (of t n).columns n.Node-at.result.left) rest (decoded_record first) (consumed first) ended.whole).enough,
         length-drop b.args.at (stream t n),
-        stream-length t n,
+        stream_length t n,
         ended.ends,
         b.pre.1.1.0,
       )
@@ -215,8 +215,8 @@ returns-5 t c =
     let n = parted t d in
     let a = (start t n).args in
     ends t n
-    (decode-first-early (here t n) (stream t n) a.at (product-padded t d) d.if3.false
-    (end-early a.at (front t d) (sym c.enum_told.given.1 ∙ j.judge-compact2.ensures)))
+    (decode_first_early (here t n) (stream t n) a.at (product_padded t d) d.if3.false
+    (end_early a.at (front t d) (sym c.enum_told.given.1 ∙ j.judge-compact2.ensures)))
 
 judge-compact-requires-3 : (t : ℕ) → lts.Need-judge-compact-requires-3 (called t) (given t) own.Post
 judge-compact-requires-3 t c κs =
@@ -235,9 +235,9 @@ returns-6 t c =
     let m = consumed (front t d) in
     let right = ty_at (of t n).columns n.Node-at.result.right in
     c.judge-compact3.ensures
-    ∙ ap (λ (k : ℕ). end_of k (decodeCompact right (drop k (stream t n)))) (ended t e).ends
-    ∙ end_after a.at (recordOf (front t d)) m (decodeCompact right (drop (a.at + m) (stream t n)))
-    ∙ ends t n (decode-both (here t n) (stream t n) a.at (product-padded t d) d.if3.left (ended t e).whole)
+    ∙ ap (λ (k : ℕ). end_of k (decode_compact right (drop k (stream t n)))) (ended t e).ends
+    ∙ end_after a.at (decoded_record (front t d)) m (decode_compact right (drop (a.at + m) (stream t n)))
+    ∙ ends t n (decode_both (here t n) (stream t n) a.at (product_padded t d) d.if3.left (ended t e).whole)
 
 pub +judge-compact-spec : {M : Type 1} → statement M
 +judge-compact-spec =

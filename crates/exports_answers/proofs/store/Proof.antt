@@ -8,7 +8,7 @@ use mathlib.Core.Bool.{Bool, cond}
 use mathlib.Core.List.{List, ◌++◌}
 use lib.ListN.{length, get_or, drop, length-set}
 use lib.Dec.{ltb}
-use Rattle.exports_answers.proofs.Fronts.{front, front-more, front-all}
+use Rattle.exports_answers.proofs.Fronts.{front, front_more, front_all}
 use Rattle.exports_answers.proofs.store.Statement.{statement}
 use Rattle.exports_answers.proofs.store.Tie as tie
 
@@ -33,7 +33,7 @@ all values lent new l e =
     let b = le-ltb (length lent) (length values) l in (
       sym (ap (λ (x : Bool). cond x 9 0) b),
       e
-          ∙ front-all values lent
+          ∙ front_all values lent
           ∙ sym (ap (λ (x : Bool). cond x lent (values ++ drop (length values) lent)) b),
     )
 
@@ -68,7 +68,7 @@ loop-again c =
       omega arith,
       (
         length-set at.lent at.i (get_or a.values.now at.i 0) ∙ at.invariant.1.0,
-        front-more a.values.now a.lent.now at.lent at.i (omega arith) (omega arith) at.invariant.1.1,
+        front_more a.values.now a.lent.now at.lent at.i (omega arith) (omega arith) at.invariant.1.1,
       ),
     )
 

@@ -2,7 +2,7 @@
 use borrow.Author.Rules.{rules}
 use mathlib.Core.Path.{ap}
 use Rattle.answers.specs.Verdicts.{count_of}
-use Rattle.exports_answers.proofs.Crossing.{refused-near, refused-value}
+use Rattle.exports_answers.proofs.Crossing.{refused_near, refused_value}
 use Rattle.exports_answers.proofs.tell_count.Statement.{statement}
 use Rattle.exports_answers.proofs.tell_count.Tie as tie
 
@@ -13,7 +13,7 @@ enum-known-answer-2 : tie.Need-enum-known-answer-2
 enum-known-answer-2 c = search rules
 
 refusal-code-requires : tie.Need-refusal-code-requires
-refusal-code-requires c κs = refused-near (count_of c.before.before.before.args.answer) _ _ (ap count_of c.before.answer2.given.1) c.before.before.before.requires
+refusal-code-requires c κs = refused_near (count_of c.before.before.before.args.answer) _ _ (ap count_of c.before.answer2.given.1) c.before.before.before.requires
 
 returns : tie.Need-returns
 returns c = search rules
@@ -21,7 +21,7 @@ returns c = search rules
 returns-2 : tie.Need-returns-2
 returns-2 c =
     let s = c.before.before.before.before in
-    refused-value (λ n. n) (count_of s.args.answer) _ _ _ s.args.value.now (ap count_of c.before.before.answer2.given.1) c.refusal-code.ensures
+    refused_value (λ n. n) (count_of s.args.answer) _ _ _ s.args.value.now (ap count_of c.before.before.answer2.given.1) c.refusal-code.ensures
 
-pub tell-count-spec : {M : Type 1} → statement M
-tell-count-spec = tie.close (tie.spec enum-known-answer enum-known-answer-2 refusal-code-requires returns returns-2)
+pub tell_count_spec : {M : Type 1} → statement M
+tell_count_spec = tie.close (tie.spec enum-known-answer enum-known-answer-2 refusal-code-requires returns returns-2)

@@ -22,5 +22,5 @@ returns c = search rules
 returns-2 : tie.Need-returns-2
 returns-2 c = c.refusal-code.ensures ∙ sym (ap (λ a. code (done_of a)) c.before.before.answer.given.1)
 
-pub tell-done-spec : {M : Type 1} → statement M
-tell-done-spec = tie.close (tie.spec enum_told enum-known-answer refusal-code-requires returns returns-2)
+pub tell_done_spec : {M : Type 1} → statement M
+tell_done_spec = tie.close (tie.spec enum_told enum-known-answer refusal-code-requires returns returns-2)

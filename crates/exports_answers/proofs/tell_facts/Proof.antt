@@ -7,8 +7,8 @@ use mathlib.Core.List.{◌∷◌}
 use lib.ListN.{length, drop}
 use lib.Dec.{ltb}
 use Rattle.answers.specs.Verdicts.{facts_of}
-use Rattle.exports_answers.specs.Codes.{factsList}
-use Rattle.exports_answers.proofs.Crossing.{refused-near, refused-values, accepted-values}
+use Rattle.exports_answers.specs.Codes.{facts_list}
+use Rattle.exports_answers.proofs.Crossing.{refused_near, refused_values, accepted_values}
 use Rattle.exports_answers.proofs.tell_facts.Statement.{statement}
 use Rattle.exports_answers.proofs.tell_facts.Tie as tie
 
@@ -32,7 +32,7 @@ enum-known-answer-2 c = search rules
 
 refusal-code-requires : tie.Need-refusal-code-requires
 refusal-code-requires c κs =
-    refused-near (facts_of c.before.before.before.before.args.answer) _ _ (ap facts_of c.before.answer2.given.1) c.before.before.before.before.requires
+    refused_near (facts_of c.before.before.before.before.args.answer) _ _ (ap facts_of c.before.answer2.given.1) c.before.before.before.before.requires
 
 same_length : tie.Need-same-length
 same_length c = search rules
@@ -43,7 +43,7 @@ returns c =
     let f = c.before.before.before.before.before.before.before.before.answer.given.0.0 in
     let told = c.before.before.store.ensures in
     let l = s.lent.now in
-    accepted-values factsList (facts_of s.answer) _ _ l _ (ap facts_of c.before.before.before.before.before.before.before.before.answer.given.1) told.0
+    accepted_values facts_list (facts_of s.answer) _ _ l _ (ap facts_of c.before.before.before.before.before.before.before.before.answer.given.1) told.0
     (told.1
     ∙ ap
     (λ (d : ℕ).
@@ -54,9 +54,9 @@ returns c =
 returns-2 : tie.Need-returns-2
 returns-2 c =
     let s = c.before.before.before.before.before.args in
-    refused-values factsList (facts_of s.answer) _ _ _ s.lent.now (ap facts_of c.before.before.answer2.given.1) c.refusal-code.ensures
+    refused_values facts_list (facts_of s.answer) _ _ _ s.lent.now (ap facts_of c.before.before.answer2.given.1) c.refusal-code.ensures
 
-pub tell-facts-spec : {M : Type 1} → statement M
-tell-facts-spec =
+pub tell_facts_spec : {M : Type 1} → statement M
+tell_facts_spec =
     tie.close
     (tie.spec enum-known-answer digit-of-requires cast-t9 slice-aggregate-store store-requires enum-known-answer-2 refusal-code-requires same_length returns returns-2)

@@ -1,9 +1,9 @@
 -- `exports_answers::tell_sides` meets its contract: each arm by what the answer is there. Assumes nothing.
 use borrow.Author.Rules.{rules}
 use mathlib.Core.Path.{ap}
-use Rattle.answers.specs.Verdicts.{sidesOf}
-use Rattle.exports_answers.specs.Codes.{sidesList}
-use Rattle.exports_answers.proofs.Crossing.{refused-near, refused-values, accepted-values}
+use Rattle.answers.specs.Verdicts.{sides_of}
+use Rattle.exports_answers.specs.Codes.{sides_list}
+use Rattle.exports_answers.proofs.Crossing.{refused_near, refused_values, accepted_values}
 use Rattle.exports_answers.proofs.tell_sides.Statement.{statement}
 use Rattle.exports_answers.proofs.tell_sides.Tie as tie
 
@@ -21,7 +21,7 @@ enum-known-answer-2 c = search rules
 
 refusal-code-requires : tie.Need-refusal-code-requires
 refusal-code-requires c κs =
-    refused-near (sidesOf c.before.before.before.before.args.answer) _ _ (ap sidesOf c.before.answer2.given.1) c.before.before.before.before.requires
+    refused_near (sides_of c.before.before.before.before.args.answer) _ _ (ap sides_of c.before.answer2.given.1) c.before.before.before.before.requires
 
 same_length : tie.Need-same-length
 same_length c = search rules
@@ -30,14 +30,14 @@ returns : tie.Need-returns
 returns c =
     let s = c.before.before.before.before.before.before.before.before.before.args in
     let told = c.before.before.store.ensures in
-    accepted-values sidesList (sidesOf s.answer) _ _ s.lent.now _ (ap sidesOf c.before.before.before.before.before.before.answer.given.1) told.0 told.1
+    accepted_values sides_list (sides_of s.answer) _ _ s.lent.now _ (ap sides_of c.before.before.before.before.before.before.answer.given.1) told.0 told.1
 
 returns-2 : tie.Need-returns-2
 returns-2 c =
     let s = c.before.before.before.before.before.args in
-    refused-values sidesList (sidesOf s.answer) _ _ _ s.lent.now (ap sidesOf c.before.before.answer2.given.1) c.refusal-code.ensures
+    refused_values sides_list (sides_of s.answer) _ _ _ s.lent.now (ap sides_of c.before.before.answer2.given.1) c.refusal-code.ensures
 
-pub tell-sides-spec : {M : Type 1} → statement M
-tell-sides-spec =
+pub tell_sides_spec : {M : Type 1} → statement M
+tell_sides_spec =
     tie.close
     (tie.spec enum-known-answer slice-aggregate-store store-requires enum-known-answer-2 refusal-code-requires same_length returns returns-2)

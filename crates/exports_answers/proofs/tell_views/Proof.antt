@@ -1,9 +1,9 @@
 -- `exports_answers::tell_views` meets its contract: each arm by what the answer is there. Assumes nothing.
 use borrow.Author.Rules.{rules}
 use mathlib.Core.Path.{ap}
-use Rattle.answers.specs.Verdicts.{spotsOf}
-use Rattle.exports_answers.specs.Codes.{spotsList}
-use Rattle.exports_answers.proofs.Crossing.{refused-near, refused-values, accepted-values}
+use Rattle.answers.specs.Verdicts.{spots_of}
+use Rattle.exports_answers.specs.Codes.{spots_list}
+use Rattle.exports_answers.proofs.Crossing.{refused_near, refused_values, accepted_values}
 use Rattle.exports_answers.proofs.tell_views.Statement.{statement}
 use Rattle.exports_answers.proofs.tell_views.Tie as tie
 
@@ -21,7 +21,7 @@ enum-known-answer-2 c = search rules
 
 refusal-code-requires : tie.Need-refusal-code-requires
 refusal-code-requires c κs =
-    refused-near (spotsOf c.before.before.before.before.args.answer) _ _ (ap spotsOf c.before.answer2.given.1) c.before.before.before.before.requires
+    refused_near (spots_of c.before.before.before.before.args.answer) _ _ (ap spots_of c.before.answer2.given.1) c.before.before.before.before.requires
 
 same_length : tie.Need-same-length
 same_length c = search rules
@@ -30,14 +30,14 @@ returns : tie.Need-returns
 returns c =
     let s = c.before.before.before.before.before.before.before.before.before.args in
     let told = c.before.before.store.ensures in
-    accepted-values spotsList (spotsOf s.answer) _ _ s.lent.now _ (ap spotsOf c.before.before.before.before.before.before.answer.given.1) told.0 told.1
+    accepted_values spots_list (spots_of s.answer) _ _ s.lent.now _ (ap spots_of c.before.before.before.before.before.before.answer.given.1) told.0 told.1
 
 returns-2 : tie.Need-returns-2
 returns-2 c =
     let s = c.before.before.before.before.before.args in
-    refused-values spotsList (spotsOf s.answer) _ _ _ s.lent.now (ap spotsOf c.before.before.answer2.given.1) c.refusal-code.ensures
+    refused_values spots_list (spots_of s.answer) _ _ _ s.lent.now (ap spots_of c.before.before.answer2.given.1) c.refusal-code.ensures
 
-pub tell-views-spec : {M : Type 1} → statement M
-tell-views-spec =
+pub tell_views_spec : {M : Type 1} → statement M
+tell_views_spec =
     tie.close
     (tie.spec enum-known-answer slice-aggregate-store store-requires enum-known-answer-2 refusal-code-requires same_length returns returns-2)

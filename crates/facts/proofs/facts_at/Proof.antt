@@ -5,8 +5,8 @@ use native.Mathlib.Omega.{arith}
 use lib.ListN.{get_or}
 use borrow.Author.Rules.{rules}
 use Rattle.meaning.specs.Tables.{Columns, columns}
-use Rattle.facts_classes.proofs.Linking.{slot-below}
-use Rattle.facts.proofs.Finding.{ready-right, head-within, unit-derived, left-reach, right-reach, left-facts, right-facts, classing, node-derived}
+use Rattle.facts_classes.proofs.Linking.{slot_below}
+use Rattle.facts.proofs.Finding.{ready_right, head_within, unit_derived, left_reach, right_reach, left_facts, right_facts, classing, node_derived}
 use Rattle.facts.proofs.facts_at.Statement.{statement}
 use Rattle.facts.proofs.facts_at.Tie as tie
 
@@ -21,7 +21,7 @@ returns : tie.Need-returns
 returns c =
     let s = c.before.before.before.before.before.before in
     let x = s.args in
-    unit-derived (cols s) x.n (ready-right (cols s) x.groups.now x.heads.now x.links.now x.n s.requires) c.if1.true
+    unit_derived (cols s) x.n (ready_right (cols s) x.groups.now x.heads.now x.links.now x.n s.requires) c.if1.true
 
 mul-side-at : tie.Need-overflow-mul-side-at
 mul-side-at c = search rules
@@ -36,7 +36,7 @@ side-at-requires : tie.Need-side-at-requires
 side-at-requires c κs =
     let s = c.before.before.before.before.before.before.before in
     let x = s.args in
-    left-reach (cols s) x.groups.now x.heads.now x.links.now x.n s.requires c.before.if1.false
+    left_reach (cols s) x.groups.now x.heads.now x.links.now x.n s.requires c.before.if1.false
 
 mul-side-at-2 : tie.Need-overflow-mul-side-at-2
 mul-side-at-2 c = search rules
@@ -51,29 +51,29 @@ side-at-requires-2 : tie.Need-side-at-requires-2
 side-at-requires-2 c κs =
     let s = c.before.before.before.before.before.before.before.before.before in
     let x = s.args in
-    right-reach (cols s) x.groups.now x.heads.now x.links.now x.n s.requires c.before.before.before.if1.false
+    right_reach (cols s) x.groups.now x.heads.now x.links.now x.n s.requires c.before.before.before.if1.false
 
 slot-of-requires : tie.Need-slot-of-requires
 slot-of-requires c κs = search rules
 
 -- The slot of the key.
-slot-low : (c : tie.After-slot-of) → c.slot_of.result < 1024
-slot-low c =
+slot_low : (c : tie.After-slot-of) → c.slot_of.result < 1024
+slot_low c =
     let x = c.before.before.before.before.before.before.before.before.before.before.before.args in
     omega
-    (arith, c.slot_of.ensures, slot-below (get_or x.kinds.now x.n 0) c.before.before.before.side-at.result.class c.before.side-at2.result.class)
+    (arith, c.slot_of.ensures, slot_below (get_or x.kinds.now x.n 0) c.before.before.before.side-at.result.class c.before.side-at2.result.class)
 
 mul-start : tie.Need-overflow-mul-start
-mul-start c = omega (arith, slot-low c)
+mul-start c = omega (arith, slot_low c)
 
 element-copy-out-start : tie.Need-element-copy-out-start
-element-copy-out-start c = slot-low c
+element-copy-out-start c = slot_low c
 
 cast-start : tie.Need-overflow-cast-start
 cast-start c =
     let s = c.before.before.before.before.before.before.before.before.before.before.before.before in
     let x = s.args in
-    omega (arith, head-within (cols s) x.groups.now x.heads.now x.links.now x.n s.requires c.before.slot_of.result (slot-low c.before), s.requires.reach.few)
+    omega (arith, head_within (cols s) x.groups.now x.heads.now x.links.now x.n s.requires c.before.slot_of.result (slot_low c.before), s.requires.reach.few)
 
 width-by-requires : tie.Need-width-by-requires
 width-by-requires c κs = search rules
@@ -89,10 +89,10 @@ class-at-requires c κs =
     let s = c.before.before.before.before.before.before.before.before.before.before.before.before.before.before.before in
     let x = s.args in
     let ne = c.before.before.before.before.before.before.before.before.before.if1.false in
-    let sx = c.before.before.before.before.before.before.before.side-at.ensures (cols s) (left-facts (cols s) x.groups.now x.heads.now x.links.now x.n s.requires ne) in
-    let sy = c.before.before.before.before.before.side-at2.ensures (cols s) (right-facts (cols s) x.groups.now x.heads.now x.links.now x.n s.requires ne) in
+    let sx = c.before.before.before.before.before.before.before.side-at.ensures (cols s) (left_facts (cols s) x.groups.now x.heads.now x.links.now x.n s.requires ne) in
+    let sy = c.before.before.before.before.before.side-at2.ensures (cols s) (right_facts (cols s) x.groups.now x.heads.now x.links.now x.n s.requires ne) in
     classing (cols s) x.groups.now x.heads.now x.links.now x.n s.requires ne c.before.before.before.before.before.before.before.side-at.result.class c.before.before.before.before.before.side-at2.result.class
-    (get_or x.heads.now c.before.before.before.before.slot_of.result 0) sx.class-is sy.class-is
+    (get_or x.heads.now c.before.before.before.before.slot_of.result 0) sx.class_is sy.class_is
     (ap (λ (i : ℕ). get_or x.heads.now i 0) c.before.before.before.before.slot_of.ensures)
 
 least-by-requires : tie.Need-least-by-requires
@@ -103,9 +103,9 @@ returns-2 c =
     let s = c.before.before.before.before.before.before.before.before.before.before.before.before.before.before.before.before.before in
     let x = s.args in
     let ne = c.before.before.before.before.before.before.before.before.before.before.before.if1.false in
-    let sx = c.before.before.before.before.before.before.before.before.before.side-at.ensures (cols s) (left-facts (cols s) x.groups.now x.heads.now x.links.now x.n s.requires ne) in
-    let sy = c.before.before.before.before.before.before.before.side-at2.ensures (cols s) (right-facts (cols s) x.groups.now x.heads.now x.links.now x.n s.requires ne) in
-    node-derived (cols s) x.groups.now x.heads.now x.links.now x.n s.requires ne c.before.before.before.before.before.before.before.before.before.side-at.result c.before.before.before.before.before.before.before.side-at2.result
+    let sx = c.before.before.before.before.before.before.before.before.before.side-at.ensures (cols s) (left_facts (cols s) x.groups.now x.heads.now x.links.now x.n s.requires ne) in
+    let sy = c.before.before.before.before.before.before.before.side-at2.ensures (cols s) (right_facts (cols s) x.groups.now x.heads.now x.links.now x.n s.requires ne) in
+    node_derived (cols s) x.groups.now x.heads.now x.links.now x.n s.requires ne c.before.before.before.before.before.before.before.before.before.side-at.result c.before.before.before.before.before.before.before.side-at2.result
     (record {
       width = c.before.before.before.before.width-by.result;
       size = c.before.before.before.size-by.result;
@@ -123,8 +123,8 @@ returns-2 c =
     c.least_by.ensures
     c.before.before.before.before.before.before.slot_of.ensures
 
-pub facts-at-spec : {M : Type 1} → statement M
-facts-at-spec =
+pub facts_at_spec : {M : Type 1} → statement M
+facts_at_spec =
     tie.close
     (tie.spec
     shared-slice-read-kind

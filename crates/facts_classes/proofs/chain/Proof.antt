@@ -1,7 +1,7 @@
 -- `facts_classes::chain` meets its contract: a node of its own class goes to the head of its slot, and any other changes nothing. Assumes nothing.
 use mathlib.Core.Path.{◌≡◌, sym, ◌∙◌}
 use borrow.Author.Rules.{rules}
-use Rattle.facts_classes.proofs.Linking.{chain-put, chain-skip}
+use Rattle.facts_classes.proofs.Linking.{chain_put, chain_skip}
 use Rattle.facts_classes.proofs.chain.Statement.{statement}
 use Rattle.facts_classes.proofs.chain.Tie as tie
 
@@ -30,15 +30,15 @@ returns : tie.Need-returns
 returns c =
     let x = c.before.before.args in
     λ t h own e.
-    chain-put t x.heads.now x.links.now x.n x.slot h (sym own ∙ c.before.if1.true) e c.before.before.requires.1
+    chain_put t x.heads.now x.links.now x.n x.slot h (sym own ∙ c.before.if1.true) e c.before.before.requires.1
 
 returns-2 : tie.Need-returns-2
 returns-2 c =
     let x = c.before.args in
-    λ t h own e. chain-skip t x.heads.now x.links.now x.n h (λ q. c.if1.false (own ∙ q))
+    λ t h own e. chain_skip t x.heads.now x.links.now x.n h (λ q. c.if1.false (own ∙ q))
 
-pub chain-spec : {M : Type 1} → statement M
-chain-spec =
+pub chain_spec : {M : Type 1} → statement M
+chain_spec =
     tie.close
     (tie.spec
     mul-links

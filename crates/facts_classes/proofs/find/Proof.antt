@@ -7,10 +7,10 @@ use mathlib.Core.Logic.{⊎_elim}
 use native.Mathlib.Omega.{arith}
 use lib.ListN.{get_or}
 use borrow.Author.Rules.{rules}
-use Rattle.meaning.specs.Tables.{Columns, columns, factsIn, left, right, class_of, entryRight}
+use Rattle.meaning.specs.Tables.{Columns, columns, facts_in, left, right, class_of, entry_right}
 use Rattle.facts_classes.specs.Chains.{slot_at, Last, InSlot, Keyed}
-use Rattle.facts_entries.proofs.Entries.{left-within, right-within}
-use Rattle.facts_classes.proofs.Linking.{Along, last-falls, along-start, along-next, along-found, along-end, along-own}
+use Rattle.facts_entries.proofs.Entries.{left_within, right_within}
+use Rattle.facts_classes.proofs.Linking.{Along, last_falls, along_start, along_next, along_found, along_end, along_own}
 use Rattle.facts_classes.proofs.find.Statement.{statement}
 use Rattle.facts_classes.proofs.find.Tie as tie
 
@@ -28,24 +28,24 @@ abbrev cols : tie.At-loop invariant-loop decreases-loop → Columns
 cols l = let x = (begun l).args in columns x.kinds.now x.lefts.now x.rights.now
 
 -- The entry of the node where the walk stands is right, and so are the classes of its sides.
-here : (l : tie.At-loop invariant-loop decreases-loop) → entryRight (cols l) l.loop.m ≡ true
+here : (l : tie.At-loop invariant-loop decreases-loop) → entry_right (cols l) l.loop.m ≡ true
 here l = (begun l).requires.entries l.loop.m l.loop.invariant.within
 
-left-class : (l : tie.At-loop invariant-loop decreases-loop)
-    → get_or (factsIn (begun l).args.groups.now).classes (left (cols l) l.loop.m) 0 ≡ class_of (cols l) (left (cols l) l.loop.m)
-left-class l =
-    (begun l).requires.classes-right (left (cols l) l.loop.m) (omega (arith, left-within (cols l) l.loop.m (here l)))
+left_class : (l : tie.At-loop invariant-loop decreases-loop)
+    → get_or (facts_in (begun l).args.groups.now).classes (left (cols l) l.loop.m) 0 ≡ class_of (cols l) (left (cols l) l.loop.m)
+left_class l =
+    (begun l).requires.classes_right (left (cols l) l.loop.m) (omega (arith, left_within (cols l) l.loop.m (here l)))
 
-right-class : (l : tie.At-loop invariant-loop decreases-loop)
-    → get_or (factsIn (begun l).args.groups.now).classes (right (cols l) l.loop.m) 0 ≡ class_of (cols l) (right (cols l) l.loop.m)
-right-class l =
-    (begun l).requires.classes-right (right (cols l) l.loop.m) (omega (arith, right-within (cols l) l.loop.m (here l)))
+right_class : (l : tie.At-loop invariant-loop decreases-loop)
+    → get_or (facts_in (begun l).args.groups.now).classes (right (cols l) l.loop.m) 0 ≡ class_of (cols l) (right (cols l) l.loop.m)
+right_class l =
+    (begun l).requires.classes_right (right (cols l) l.loop.m) (omega (arith, right_within (cols l) l.loop.m (here l)))
 
 loop-holds : tie.Need-loop-init invariant-loop decreases-loop
 loop-holds c =
     let s = c.before.before.before.before in
     let x = s.args in
-    along-start (columns x.kinds.now x.lefts.now x.rights.now) x.start x.kind x.a x.b s.requires.begins
+    along_start (columns x.kinds.now x.lefts.now x.rights.now) x.start x.kind x.a x.b s.requires.begins
 
 shared-slice-read-if1 : tie.Need-shared-slice-read-if1 invariant-loop decreases-loop
 shared-slice-read-if1 c = search rules
@@ -62,7 +62,7 @@ cast-class-at c = omega (arith, c.shared-slice-known6.given c.before.before.befo
 class-at-requires : tie.Need-class-at-requires invariant-loop decreases-loop
 class-at-requires c κs =
     let l = c.before.before.before.before in
-    omega (arith, left-within (cols l) l.loop.m (here l), (begun l).requires.groups-reach)
+    omega (arith, left_within (cols l) l.loop.m (here l), (begun l).requires.groups-reach)
 
 mul-class-at-2 : tie.Need-overflow-mul-class-at-2 invariant-loop decreases-loop
 mul-class-at-2 c = search rules
@@ -76,7 +76,7 @@ cast-class-at-2 c = omega (arith, c.shared-slice-known7.given c.before.before.be
 class-at-requires-2 : tie.Need-class-at-requires-2 invariant-loop decreases-loop
 class-at-requires-2 c κs =
     let l = c.before.before.before.before.before.before.before in
-    omega (arith, right-within (cols l) l.loop.m (here l), (begun l).requires.groups-reach)
+    omega (arith, right_within (cols l) l.loop.m (here l), (begun l).requires.groups-reach)
 
 returns : tie.Need-returns invariant-loop decreases-loop
 returns c =
@@ -85,12 +85,12 @@ returns c =
     let l = first.before.before.before in
     let x = (begun l).args in
     let m = l.loop.m in
-    along-found (cols l) x.start x.kind x.a x.b m l.loop.invariant
+    along_found (cols l) x.start x.kind x.a x.b m l.loop.invariant
     (record {
-      own = along-own (cols l) x.start x.kind x.a x.b m l.loop.invariant first.before.before.loop-test.true;
+      own = along_own (cols l) x.start x.kind x.a x.b m l.loop.invariant first.before.before.loop-test.true;
       same_kind = first.if1.true;
-      same_left = sym (left-class l) ∙ sym second.before.class-at.ensures ∙ second.if2.true;
-      same-right = sym (right-class l) ∙ sym c.before.class-at2.ensures ∙ c.if3.true;
+      same_left = sym (left_class l) ∙ sym second.before.class-at.ensures ∙ second.if2.true;
+      same_right = sym (right_class l) ∙ sym c.before.class-at2.ensures ∙ c.if3.true;
     })
 
 mul-m : tie.Need-overflow-mul-m invariant-loop decreases-loop
@@ -107,13 +107,13 @@ next_last c =
     let l = c.before.before.before in
     let x = (begun l).args in
     (begun l).requires.goes_on l.loop.m l.loop.invariant.within
-    (along-own (cols l) x.start x.kind x.a x.b l.loop.m l.loop.invariant c.before.before.loop-test.true)
+    (along_own (cols l) x.start x.kind x.a x.b l.loop.m l.loop.invariant c.before.before.loop-test.true)
 
 -- It stands earlier.
 falls : (c : tie.Joined1 invariant-loop decreases-loop)
     → let l = c.before.before.before in
     get_or (begun l).args.links.now l.loop.m 0 < l.loop.m
-falls c = last-falls (next_last c) c.before.before.loop-test.true
+falls c = last_falls (next_last c) c.before.before.loop-test.true
 
 cast-m : tie.Need-overflow-cast-m invariant-loop decreases-loop
 cast-m c = omega (arith, falls c.before)
@@ -126,10 +126,10 @@ loop-again c =
     let l = c.before.before.before.before in
     let x = (begun l).args in
     let m = l.loop.m in
-    along-next (cols l) x.start x.kind x.a x.b m (get_or x.links.now m 0) l.loop.invariant c.before.before.before.loop-test.true
+    along_next (cols l) x.start x.kind x.a x.b m (get_or x.links.now m 0) l.loop.invariant c.before.before.before.loop-test.true
     (λ (v : Keyed (cols l) x.kind x.a x.b m).
-    ⊎_elim (λ w. w.6.left (w.5.ensures ∙ right-class l ∙ v.same-right))
-    (⊎_elim (λ w. w.3.left (w.2.ensures ∙ left-class l ∙ v.same_left))
+    ⊎_elim (λ w. w.6.left (w.5.ensures ∙ right_class l ∙ v.same_right))
+    (⊎_elim (λ w. w.3.left (w.2.ensures ∙ left_class l ∙ v.same_left))
     (λ w. w.left v.same_kind))
     c.before.if1.branch)
     (next_last c.before)
@@ -138,7 +138,7 @@ returns-2 : tie.Need-returns-2 invariant-loop decreases-loop
 returns-2 c =
     let l = c.before in
     let x = (begun l).args in
-    along-end (cols l) x.start x.kind x.a x.b l.loop.m l.loop.invariant c.loop-test.false
+    along_end (cols l) x.start x.kind x.a x.b l.loop.m l.loop.invariant c.loop-test.false
 
 pub find_spec : {M : Type 1} → statement M
 find_spec =

@@ -24,6 +24,6 @@ returns : tie.Need-returns
 unfolding slot
 returns c = refl
 
-pub slot-of-spec : {M : Type 1} → statement M
-slot-of-spec =
+pub slot_of_spec : {M : Type 1} → statement M
+slot_of_spec =
     tie.close (tie.spec mul-result mul-result-2 add-result add-result-2 mul-result-3 returns)

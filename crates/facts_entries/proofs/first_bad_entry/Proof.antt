@@ -6,13 +6,13 @@ use mathlib.Core.Bool.{true}
 use borrow.Author.Rules.{rules}
 use borrow.Author.Count.{below_none, below_more}
 use borrow.Author.Tests.{not-true, not-false}
-use Rattle.meaning.specs.Tables.{columns, entryRight}
-use Rattle.facts_entries.proofs.Entries.{bad-entry-here, no-bad-entry}
+use Rattle.meaning.specs.Tables.{columns, entry_right}
+use Rattle.facts_entries.proofs.Entries.{bad_entry_here, no_bad_entry}
 use Rattle.facts_entries.proofs.first_bad_entry.Statement.{statement}
 use Rattle.facts_entries.proofs.first_bad_entry.Tie as tie
 
 abbrev invariant-loop : tie.invariant-loop
-invariant-loop kinds lefts rights count k₀ k = (k ≤ count) × ((j : ℕ) → j < k → entryRight (columns kinds lefts rights) j ≡ true)
+invariant-loop kinds lefts rights count k₀ k = (k ≤ count) × ((j : ℕ) → j < k → entry_right (columns kinds lefts rights) j ≡ true)
 
 abbrev decreases-loop : tie.decreases-loop
 decreases-loop kinds lefts rights count k₀ k = count - k
@@ -39,11 +39,11 @@ entry-right-requires : tie.Need-entry-right-requires invariant-loop decreases-lo
 entry-right-requires c κs = search rules
 
 returns : tie.Need-returns invariant-loop decreases-loop
-unfolding entryRight
+unfolding entry_right
 returns c =
     let l = c.before.before.before.before.before.before in
     let x = l.before.before.before.before.args in
-    bad-entry-here (columns x.kinds.now x.lefts.now x.rights.now) x.count l.loop.k c.before.before.before.before.before.loop-test.true l.loop.invariant.1
+    bad_entry_here (columns x.kinds.now x.lefts.now x.rights.now) x.count l.loop.k c.before.before.before.before.before.loop-test.true l.loop.invariant.1
     (sym c.before.entry-right.ensures ∙ not-true c.before.entry-right.result c.if1.true)
 
 add-k : tie.Need-overflow-add-k invariant-loop decreases-loop
@@ -53,7 +53,7 @@ loop-less : tie.Need-loop-smaller invariant-loop decreases-loop
 loop-less c = search rules
 
 loop-again : tie.Need-loop-preserved invariant-loop decreases-loop
-unfolding entryRight
+unfolding entry_right
 loop-again c =
     let l = c.before.before.before.before.before.before in
     (search rules, below_more _ _ l.loop.invariant.1 (sym c.before.entry-right.ensures ∙ not-false c.before.entry-right.result c.if1.false))
@@ -63,11 +63,11 @@ returns-2 c =
     let l = c.before in
     let x = l.before.before.before.before.args in
     let e : l.loop.k ≡ x.count = omega arith in
-    no-bad-entry (columns x.kinds.now x.lefts.now x.rights.now) x.count
+    no_bad_entry (columns x.kinds.now x.lefts.now x.rights.now) x.count
     (λ j h. l.loop.invariant.1 j (omega arith))
 
-pub first-bad-entry-spec : {M : Type 1} → statement M
-first-bad-entry-spec =
+pub first_bad_entry_spec : {M : Type 1} → statement M
+first_bad_entry_spec =
     tie.close
     (tie.spec
     invariant-loop

@@ -5,14 +5,14 @@ use lib.Dec.{eqb}
 use lib.ListN.{get_or}
 use borrow.Author.Rules.{rules}
 use borrow.Author.Tests.{eq-eqb, ne_eqb}
-use Rattle.meaning.specs.Tables.{Facts, factsIn}
+use Rattle.meaning.specs.Tables.{Facts, facts_in}
 use Rattle.facts_sides.proofs.Agreeing.{alike, alike_right}
 use Rattle.facts_sides.proofs.agrees.Statement.{statement}
 use Rattle.facts_sides.proofs.agrees.Tie as tie
 
 -- The facts that the groups hold.
 abbrev held : tie.Start → Facts
-held s = factsIn s.args.groups.now
+held s = facts_in s.args.groups.now
 
 -- Where it began, from each of the first four reads.
 abbrev start1 : tie.After-width-at → tie.Start
@@ -38,8 +38,8 @@ same_size c =
     let s = start2 c.before.before in
     eq-eqb (get_or (held s).sizes s.args.n 0) s.args.f.size (sym c.before.before.size-at.ensures ∙ c.if2.false)
 
-same-padded : (c : tie.Else3) → let s = start3 c.before.before in eqb (get_or (held s).paddeds s.args.n 0) s.args.f.padded ≡ true
-same-padded c =
+same_padded : (c : tie.Else3) → let s = start3 c.before.before in eqb (get_or (held s).paddeds s.args.n 0) s.args.f.padded ≡ true
+same_padded c =
     let s = start3 c.before.before in
     eq-eqb (get_or (held s).paddeds s.args.n 0) s.args.f.padded (sym c.before.before.padded-at.ensures ∙ c.if3.false)
 
@@ -102,7 +102,7 @@ returns-4 c =
     simp (
       same_width c.before.before.before.before.before.before.before.before.before,
       same_size c.before.before.before.before.before.before,
-      same-padded c.before.before.before,
+      same_padded c.before.before.before,
       ne_eqb (get_or (held s).classes x.n 0) x.f.class (λ q. c.if4.true (c.before.before.class-at.ensures ∙ q)),
     ) in
     λ t derived. e ∙ alike_right t (held s) x.n x.f derived
@@ -120,13 +120,13 @@ returns-5 c =
       c.before.least_at.ensures,
       same_width fourth.before.before.before.before.before.before.before.before.before,
       same_size fourth.before.before.before.before.before.before,
-      same-padded fourth.before.before.before,
+      same_padded fourth.before.before.before,
       same_class fourth,
     ) in
     λ t derived. e ∙ alike_right t (held s) x.n x.f derived
 
-pub agrees-spec : {M : Type 1} → statement M
-agrees-spec =
+pub agrees_spec : {M : Type 1} → statement M
+agrees_spec =
     tie.close
     (tie.spec
     width-at-requires

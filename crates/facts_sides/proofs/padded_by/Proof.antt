@@ -36,5 +36,5 @@ returns-5 c =
       ne_eqb x.a x.b c.if4.false,
     )
 
-pub padded-by-spec : {M : Type 1} → statement M
-padded-by-spec = tie.close (tie.spec returns returns-2 returns-3 returns-4 returns-5)
+pub padded_by_spec : {M : Type 1} → statement M
+padded_by_spec = tie.close (tie.spec returns returns-2 returns-3 returns-4 returns-5)

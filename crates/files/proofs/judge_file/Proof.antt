@@ -5,13 +5,13 @@ use mathlib.Core.Path.{◌≡◌, ap, sym, ◌∙◌, subst}
 use mathlib.Core.List.{List}
 use native.Mathlib.Omega.{arith}
 use borrow.Author.Rules.{rules}
-use Rattle.meaning.specs.Tables.{countRight}
+use Rattle.meaning.specs.Tables.{count_right}
 use Rattle.meaning.specs.Files.{found, number}
-use Rattle.files_numbers.specs.Readings.{readAt}
+use Rattle.files_numbers.specs.Readings.{read_at}
 use Rattle.files.specs.Readings.{node_of, entry_of}
-use Rattle.files.proofs.Nodes.{count-range}
+use Rattle.files.proofs.Nodes.{count_range}
 use Rattle.files.proofs.Entries.{ReadUpTo, read_none, read_more}
-use Rattle.files.proofs.Whole.{verdict-count, verdict-node, verdict-surplus, verdict-sound}
+use Rattle.files.proofs.Whole.{verdict_count, verdict_node, verdict_surplus, verdict_sound}
 use Rattle.files.proofs.judge_file.Statement.{statement}
 use Rattle.files.proofs.judge_file.Tie as tie
 
@@ -31,11 +31,11 @@ Count c = c.before.count.given.0.0
 abbrev First : tie.After-known-told invariant-loop decreases-loop → ℕ
 First c = c.before.count.given.0.1.0
 
-counted : (c : tie.After-known-told invariant-loop decreases-loop) → found (Count c) (First c) ≡ number countRight (File c) 0
-counted c = sym (ap (readAt 0) c.before.count.given.1) ∙ c.before.before.before.count_of.ensures
+counted : (c : tie.After-known-told invariant-loop decreases-loop) → found (Count c) (First c) ≡ number count_right (File c) 0
+counted c = sym (ap (read_at 0) c.before.count.given.1) ∙ c.before.before.before.count_of.ensures
 
 few : (c : tie.After-known-told invariant-loop decreases-loop) → Count c ≤ 1024
-few c = (count-range (File c) (Count c) (First c) (counted c)).1
+few c = (count_range (File c) (Count c) (First c) (counted c)).1
 
 count-of-requires : tie.Need-count-of-requires invariant-loop decreases-loop
 count-of-requires c κs = search rules
@@ -47,7 +47,7 @@ enum_told : tie.Need-enum-told invariant-loop decreases-loop
 enum_told c = search rules
 
 returns : tie.Need-returns invariant-loop decreases-loop
-returns c = verdict-count _ (sym (ap (readAt 0) c.enum_told.given.1) ∙ c.before.before.count_of.ensures)
+returns c = verdict_count _ (sym (ap (read_at 0) c.enum_told.given.1) ∙ c.before.before.count_of.ensures)
 
 loop-holds : tie.Need-loop-init invariant-loop decreases-loop
 loop-holds c = (omega arith, read_none (File c) (First c))
@@ -63,7 +63,7 @@ returns-2 c =
     let p = c.before.place.given in
     let a = c.before.before.before in
     let l = a.before.before in
-    verdict-node (File l.before) (Count l.before) (First l.before) (counted l.before) l.loop.n l.loop.at p.0.0 l.loop.invariant.1
+    verdict_node (File l.before) (Count l.before) (First l.before) (counted l.before) l.loop.n l.loop.at p.0.0 l.loop.invariant.1
     a.before.loop-test.true
     (sym (ap node_of p.1) ∙ a.Node-at.ensures)
 
@@ -95,15 +95,15 @@ all_read c =
 returns-3 : tie.Need-returns-3 invariant-loop decreases-loop
 returns-3 c =
     let s = c.before.before.before in
-    verdict-surplus (File s) (Count s) (First s) (counted s) c.before.before.loop.at (all_read c.before) (omega arith)
+    verdict_surplus (File s) (Count s) (First s) (counted s) c.before.before.loop.at (all_read c.before) (omega arith)
 
 returns-4 : tie.Need-returns-4 invariant-loop decreases-loop
 returns-4 c =
     let s = c.before.before.before in
-    verdict-sound (File s) (Count s) (First s) (counted s) c.before.before.loop.at (all_read c.before) (omega arith)
+    verdict_sound (File s) (Count s) (First s) (counted s) c.before.before.loop.at (all_read c.before) (omega arith)
 
-pub judge-file-spec : {M : Type 1} → statement M
-judge-file-spec =
+pub judge_file_spec : {M : Type 1} → statement M
+judge_file_spec =
     tie.close
     (tie.spec
     invariant-loop

@@ -8,8 +8,8 @@ use lib.Dec.{ltb}
 use borrow.Author.Rules.{rules}
 use borrow.Author.Tests.{ltb-true}
 use Rattle.meaning.specs.Files.{found, number}
-use Rattle.files_numbers.specs.Readings.{readAt}
-use Rattle.files.proofs.Nodes.{number-range, node-kind-fault, node-unit, node-left-fault, node-right-fault, node-sides}
+use Rattle.files_numbers.specs.Readings.{read_at}
+use Rattle.files.proofs.Nodes.{number_range, node_kind_fault, node_unit, node_left_fault, node_right_fault, node_sides}
 use Rattle.files.proofs.node_at.Statement.{statement}
 use Rattle.files.proofs.node_at.Tie as tie
 
@@ -29,8 +29,8 @@ Kind e = e.before.before.kind.given.0.0
 abbrev LeftAt : tie.Else1 → ℕ
 LeftAt e = e.before.before.kind.given.0.1.0
 
-kind-found : (e : tie.Else1) → found (Kind e) (LeftAt e) ≡ number (λ m. ltb m 3) (File e) (At e)
-kind-found e = sym (ap (readAt (At e)) e.before.before.kind.given.1) ∙ e.before.before.before.before.number-below.ensures
+kind_found : (e : tie.Else1) → found (Kind e) (LeftAt e) ≡ number (λ m. ltb m 3) (File e) (At e)
+kind_found e = sym (ap (read_at (At e)) e.before.before.kind.given.1) ∙ e.before.before.before.before.number-below.ensures
 
 -- The left side and the offset after it.
 abbrev SidesAnswer : tie.After-known-told2 → tie.Else1
@@ -42,8 +42,8 @@ Left d = d.before.left.given.0.0
 abbrev RightAt : tie.After-known-told2 → ℕ
 RightAt d = d.before.left.given.0.1.0
 
-left-found : (d : tie.After-known-told2) → found (Left d) (RightAt d) ≡ number (λ m. ltb m (N (SidesAnswer d))) (File (SidesAnswer d)) (LeftAt (SidesAnswer d))
-left-found d = sym (ap (readAt (LeftAt (SidesAnswer d))) d.before.left.given.1) ∙ d.before.before.before.number-below2.ensures
+left_found : (d : tie.After-known-told2) → found (Left d) (RightAt d) ≡ number (λ m. ltb m (N (SidesAnswer d))) (File (SidesAnswer d)) (LeftAt (SidesAnswer d))
+left_found d = sym (ap (read_at (LeftAt (SidesAnswer d))) d.before.left.given.1) ∙ d.before.before.before.number-below2.ensures
 
 -- The right side and the offset after it.
 abbrev Lefted : tie.After-known-told3 → tie.After-known-told2
@@ -55,9 +55,9 @@ Right c = c.before.right.given.0.0
 abbrev Next : tie.After-known-told3 → ℕ
 Next c = c.before.right.given.0.1.0
 
-right-found : (c : tie.After-known-told3)
+right_found : (c : tie.After-known-told3)
     → found (Right c) (Next c) ≡ number (λ m. ltb m (N (SidesAnswer (Lefted c)))) (File (SidesAnswer (Lefted c))) (RightAt (Lefted c))
-right-found c = sym (ap (readAt (RightAt (Lefted c))) c.before.right.given.1) ∙ c.before.before.before.number-below3.ensures
+right_found c = sym (ap (read_at (RightAt (Lefted c))) c.before.right.given.1) ∙ c.before.before.before.number-below3.ensures
 
 number-below-requires : tie.Need-number-below-requires
 number-below-requires c κs = search rules
@@ -71,14 +71,14 @@ enum_told c = search rules
 returns : tie.Need-returns
 returns c =
     let a = c.before.before.before.before.args in
-    node-kind-fault _ a.n a.at (sym (ap (readAt a.at) c.enum_told.given.1) ∙ c.before.before.number-below.ensures)
+    node_kind_fault _ a.n a.at (sym (ap (read_at a.at) c.enum_told.given.1) ∙ c.before.before.number-below.ensures)
 
 returns-2 : tie.Need-returns-2
 returns-2 c =
     let a = c.before.before.before.before.before.before.args in
     let k = c.before.before.kind.given in
-    node-unit _ a.n a.at k.0.0 k.0.1.0
-    (sym (ap (readAt a.at) k.1) ∙ c.before.before.before.before.number-below.ensures)
+    node_unit _ a.n a.at k.0.0 k.0.1.0
+    (sym (ap (read_at a.at) k.1) ∙ c.before.before.before.before.number-below.ensures)
     c.if1.true
 
 number-below-requires-2 : tie.Need-number-below-requires-2
@@ -93,8 +93,8 @@ enum-told-2 c = search rules
 returns-3 : tie.Need-returns-3
 returns-3 c =
     let e = c.before.before.before in
-    node-left-fault _ (N e) (At e) (Kind e) (LeftAt e) (kind-found e) e.if1.false
-    (sym (ap (readAt (LeftAt e)) c.enum-told2.given.1) ∙ c.before.before.number-below2.ensures)
+    node_left_fault _ (N e) (At e) (Kind e) (LeftAt e) (kind_found e) e.if1.false
+    (sym (ap (read_at (LeftAt e)) c.enum-told2.given.1) ∙ c.before.before.number-below2.ensures)
 
 number-below-requires-3 : tie.Need-number-below-requires-3
 number-below-requires-3 c κs = search rules
@@ -109,13 +109,13 @@ returns-4 : tie.Need-returns-4
 returns-4 c =
     let d = c.before.before.before in
     let e = SidesAnswer d in
-    node-right-fault _ (N e) (At e) (Kind e) (LeftAt e) (kind-found e) e.if1.left (Left d) (RightAt d) (left-found d)
-    (sym (ap (readAt (RightAt d)) c.enum-told3.given.1) ∙ c.before.before.number-below3.ensures)
+    node_right_fault _ (N e) (At e) (Kind e) (LeftAt e) (kind_found e) e.if1.left (Left d) (RightAt d) (left_found d)
+    (sym (ap (read_at (RightAt d)) c.enum-told3.given.1) ∙ c.before.before.number-below3.ensures)
 
 cast-t15 : tie.Need-overflow-cast-t15
 cast-t15 c =
     let e = SidesAnswer (Lefted c) in
-    omega (arith, ltb-true (Kind e) 3 (number-range (λ m. ltb m 3) (File e) (At e) (Kind e) (LeftAt e) (kind-found e)).1)
+    omega (arith, ltb-true (Kind e) 3 (number_range (λ m. ltb m 3) (File e) (At e) (Kind e) (LeftAt e) (kind_found e)).1)
 
 cast-t16 : tie.Need-overflow-cast-t16
 cast-t16 c =
@@ -124,7 +124,7 @@ cast-t16 c =
     omega (
       arith,
       e.before.before.before.before.before.before.pre,
-      ltb-true (Left d) (N e) (number-range (λ m. ltb m (N e)) (File e) (LeftAt e) (Left d) (RightAt d) (left-found d)).1,
+      ltb-true (Left d) (N e) (number_range (λ m. ltb m (N e)) (File e) (LeftAt e) (Left d) (RightAt d) (left_found d)).1,
     )
 
 cast-t17 : tie.Need-overflow-cast-t17
@@ -134,14 +134,14 @@ cast-t17 c =
     omega (
       arith,
       e.before.before.before.before.before.before.pre,
-      ltb-true (Right c) (N e) (number-range (λ m. ltb m (N e)) (File e) (RightAt d) (Right c) (Next c) (right-found c)).1,
+      ltb-true (Right c) (N e) (number_range (λ m. ltb m (N e)) (File e) (RightAt d) (Right c) (Next c) (right_found c)).1,
     )
 
 returns-5 : tie.Need-returns-5
 returns-5 c =
     let d = Lefted c in
     let e = SidesAnswer d in
-    node-sides _ (N e) (At e) (Kind e) (LeftAt e) (kind-found e) e.if1.left (Left d) (RightAt d) (Right c) (Next c) (left-found d) (right-found c)
+    node_sides _ (N e) (At e) (Kind e) (LeftAt e) (kind_found e) e.if1.left (Left d) (RightAt d) (Right c) (Next c) (left_found d) (right_found c)
 
 pub node_at_spec : {M : Type 1} → statement M
 node_at_spec =

@@ -4,9 +4,9 @@ use native.Mathlib.Omega.{arith}
 use mathlib.Core.Path.{◌≡◌, sym, ap, ◌∙◌}
 use Prim.Native.Nat.{ℕ, ◌+◌, ◌*◌, ◌≤◌}
 use lib.ListN.{length}
-use Rattle.meaning.specs.Groups.{groupSize}
-use Rattle.meaning.proofs.Groups.{fact-at}
-use Rattle.groups.proofs.Lows.{low-two}
+use Rattle.meaning.specs.Groups.{group_size}
+use Rattle.meaning.proofs.Groups.{fact_at}
+use Rattle.groups.proofs.Lows.{low_two}
 use Rattle.groups.proofs.class_at.Statement.{statement}
 use Rattle.groups.proofs.class_at.Tie as tie
 
@@ -33,8 +33,8 @@ returns c =
     let b = c.before.before.before.before in
     let n = b.args.n in
     let g = b.args.groups.now in
-    let h : groupSize * n + 17 + 2 ≤ length g = omega arith in
-    c.two.ensures ∙ sym (fact-at 17 2 n g b.requires ∙ low-two (groupSize * n + 17) g h)
+    let h : group_size * n + 17 + 2 ≤ length g = omega arith in
+    c.two.ensures ∙ sym (fact_at 17 2 n g b.requires ∙ low_two (group_size * n + 17) g h)
 
-pub class-at-spec : {M : Type 1} → statement M
-class-at-spec = tie.close (tie.spec mul_at add_at shared-slice-read-two add-two shared-slice-read-two-2 two-requires returns)
+pub class_at_spec : {M : Type 1} → statement M
+class_at_spec = tie.close (tie.spec mul_at add_at shared-slice-read-two add-two shared-slice-read-two-2 two-requires returns)

@@ -2,7 +2,7 @@
 use borrow.Author.Rules.{rules}
 use native.Mathlib.Omega.{arith}
 use mathlib.Core.Path.{sym, ◌∙◌}
-use Rattle.meaning.proofs.Groups.{fact-at}
+use Rattle.meaning.proofs.Groups.{fact_at}
 use Rattle.groups.proofs.least_at.Statement.{statement}
 use Rattle.groups.proofs.least_at.Tie as tie
 
@@ -19,7 +19,7 @@ returns : tie.Need-returns
 returns c =
     let b = c.before.before in
     let a = b.args in
-    c.eight.ensures ∙ sym (fact-at 19 8 a.n a.groups.now b.requires)
+    c.eight.ensures ∙ sym (fact_at 19 8 a.n a.groups.now b.requires)
 
-pub least-at-spec : {M : Type 1} → statement M
-least-at-spec = tie.close (tie.spec mul-eight add_eight eight-requires returns)
+pub least_at_spec : {M : Type 1} → statement M
+least_at_spec = tie.close (tie.spec mul-eight add_eight eight-requires returns)

@@ -4,9 +4,9 @@ use native.Mathlib.Omega.{arith}
 use mathlib.Core.Path.{◌≡◌, sym, ap, ◌∙◌}
 use Prim.Native.Nat.{ℕ, ◌+◌, ◌*◌, ◌≤◌}
 use lib.ListN.{length}
-use Rattle.meaning.specs.Groups.{groupSize}
-use Rattle.meaning.proofs.Groups.{fact-at}
-use Rattle.groups.proofs.Lows.{low-one}
+use Rattle.meaning.specs.Groups.{group_size}
+use Rattle.meaning.proofs.Groups.{fact_at}
+use Rattle.groups.proofs.Lows.{low_one}
 use Rattle.groups.proofs.padded_at.Statement.{statement}
 use Rattle.groups.proofs.padded_at.Tie as tie
 
@@ -24,8 +24,8 @@ returns c =
     let b = c.before in
     let n = b.args.n in
     let g = b.args.groups.now in
-    let h : groupSize * n + 16 + 1 ≤ length g = omega arith in
-    sym (fact-at 16 1 n g b.requires ∙ low-one (groupSize * n + 16) g h)
+    let h : group_size * n + 16 + 1 ≤ length g = omega arith in
+    sym (fact_at 16 1 n g b.requires ∙ low_one (group_size * n + 16) g h)
 
-pub padded-at-spec : {M : Type 1} → statement M
-padded-at-spec = tie.close (tie.spec mul-result add-result shared-slice-read-result returns)
+pub padded_at_spec : {M : Type 1} → statement M
+padded_at_spec = tie.close (tie.spec mul-result add-result shared-slice-read-result returns)

@@ -6,9 +6,9 @@ use native.Mathlib.Omega.{arith}
 use lib.ListN.{length, length-append}
 use lib.Seq.{paste}
 use borrow.Author.Rules.{rules}
-use Rattle.meaning.specs.Groups.{low_bytes, group, groupSize}
-use Rattle.meaning.proofs.Groups.{length-lowBytes}
-use Rattle.meaning.proofs.Pasted.{paste-append}
+use Rattle.meaning.specs.Groups.{low_bytes, group, group_size}
+use Rattle.meaning.proofs.Groups.{length_low_bytes}
+use Rattle.meaning.proofs.Pasted.{paste_append}
 use Rattle.groups.proofs.put_facts.Statement.{statement}
 use Rattle.groups.proofs.put_facts.Tie as tie
 
@@ -19,22 +19,22 @@ side_by_side : (d d₁ d₂ d₃ d₄ d₅ : List ℕ) (at w z p k l : ℕ) → 
     → d₃ ≡ paste d₂ (at + 16) (low_bytes 1 p) 1
     → d₄ ≡ paste d₃ (at + 17) (low_bytes 2 k) 2
     → d₅ ≡ paste d₄ (at + 19) (low_bytes 8 l) 8
-    → d₅ ≡ paste d at (group w z p k l) groupSize
+    → d₅ ≡ paste d at (group w z p k l) group_size
 side_by_side d d₁ d₂ d₃ d₄ d₅ at w z p k l h e₁ e₂ e₃ e₄ e₅ =
     let a : List ℕ = low_bytes 8 w in
     let b : List ℕ = low_bytes 8 z in
     let c : List ℕ = low_bytes 1 p in
     let f : List ℕ = low_bytes 2 k in
-    let la : length a ≡ 8 = length-lowBytes 8 w in
-    let lab : length (a ++ b) ≡ 16 = length-append a b ∙ ap₂ ◌+◌ la (length-lowBytes 8 z) in
-    let labc : length (a ++ b ++ c) ≡ 17 = length-append (a ++ b) c ∙ ap₂ ◌+◌ lab (length-lowBytes 1 p) in
-    let labcf : length (a ++ b ++ c ++ f) ≡ 19 = length-append (a ++ b ++ c) f ∙ ap₂ ◌+◌ labc (length-lowBytes 2 k) in
-    let two : d₂ ≡ paste d at (a ++ b) 16 = e₂ ∙ ap (λ (x : List ℕ). paste x (at + 8) b 8) e₁ ∙ paste-append d at a 8 b 8 h la in
-    let three : d₃ ≡ paste d at (a ++ b ++ c) 17 = e₃ ∙ ap (λ (x : List ℕ). paste x (at + 16) c 1) two ∙ paste-append d at (a ++ b) 16 c 1 h lab in
-    let four : d₄ ≡ paste d at (a ++ b ++ c ++ f) 19 = e₄ ∙ ap (λ (x : List ℕ). paste x (at + 17) f 2) three ∙ paste-append d at (a ++ b ++ c) 17 f 2 h labc in
+    let la : length a ≡ 8 = length_low_bytes 8 w in
+    let lab : length (a ++ b) ≡ 16 = length-append a b ∙ ap₂ ◌+◌ la (length_low_bytes 8 z) in
+    let labc : length (a ++ b ++ c) ≡ 17 = length-append (a ++ b) c ∙ ap₂ ◌+◌ lab (length_low_bytes 1 p) in
+    let labcf : length (a ++ b ++ c ++ f) ≡ 19 = length-append (a ++ b ++ c) f ∙ ap₂ ◌+◌ labc (length_low_bytes 2 k) in
+    let two : d₂ ≡ paste d at (a ++ b) 16 = e₂ ∙ ap (λ (x : List ℕ). paste x (at + 8) b 8) e₁ ∙ paste_append d at a 8 b 8 h la in
+    let three : d₃ ≡ paste d at (a ++ b ++ c) 17 = e₃ ∙ ap (λ (x : List ℕ). paste x (at + 16) c 1) two ∙ paste_append d at (a ++ b) 16 c 1 h lab in
+    let four : d₄ ≡ paste d at (a ++ b ++ c ++ f) 19 = e₄ ∙ ap (λ (x : List ℕ). paste x (at + 17) f 2) three ∙ paste_append d at (a ++ b ++ c) 17 f 2 h labc in
     e₅ ∙ ap (λ (x : List ℕ). paste x (at + 19) (low_bytes 8 l) 8) four
-    ∙ paste-append d at (a ++ b ++ c ++ f) 19 (low_bytes 8 l) 8 h labcf
-    ∙ ap (λ (x : List ℕ). paste d at x groupSize)
+    ∙ paste_append d at (a ++ b ++ c ++ f) 19 (low_bytes 8 l) 8 h labcf
+    ∙ ap (λ (x : List ℕ). paste d at x group_size)
     (append_assoc (a ++ b ++ c) f (low_bytes 8 l) ∙ append_assoc (a ++ b) c (f ++ low_bytes 8 l) ∙ append_assoc a b (c ++ (f ++ low_bytes 8 l)))
 
 mul_at : tie.Need-overflow-mul-at
@@ -79,8 +79,8 @@ returns c =
     let first = second.before.before.before.before in
     let start = first.before.before.before in
     let a = start.args in
-    side_by_side a.groups.now _ _ _ _ _ (groupSize * a.n) a.width a.size a.padded a.class a.least (omega (arith, start.requires))
+    side_by_side a.groups.now _ _ _ _ _ (group_size * a.n) a.width a.size a.padded a.class a.least (omega (arith, start.requires))
     first.put_low.ensures second.put-low2.ensures third.put-low3.ensures fourth.put-low4.ensures fifth.put-low5.ensures
 
-pub put-facts-spec : {M : Type 1} → statement M
-put-facts-spec = tie.close (tie.spec mul_at put-low-requires add-put-low put-low-requires-2 add-put-low-2 put-low-requires-3 add-put-low-3 put-low-requires-4 add-put-low-4 put-low-requires-5 same_length returns)
+pub put_facts_spec : {M : Type 1} → statement M
+put_facts_spec = tie.close (tie.spec mul_at put-low-requires add-put-low put-low-requires-2 add-put-low-2 put-low-requires-3 add-put-low-3 put-low-requires-4 add-put-low-4 put-low-requires-5 same_length returns)

@@ -8,8 +8,8 @@ use lib.ListN.{length, drop, get_or, set, length-set}
 use lib.Seq.{paste, paste-zero, paste-suc}
 use borrow.Author.Rules.{rules}
 use Rattle.meaning.specs.Groups.{low_bytes}
-use Rattle.meaning.proofs.Groups.{length-lowBytes}
-use Rattle.groups.proofs.Lows.{low-next, low-head}
+use Rattle.meaning.proofs.Groups.{length_low_bytes}
+use Rattle.groups.proofs.Lows.{low_next, low_head}
 use Rattle.groups.proofs.put_low.Statement.{statement}
 use Rattle.groups.proofs.put_low.Tie as tie
 
@@ -45,15 +45,15 @@ loop-again c =
     let a = c.before.before.args in
     let l = c.before.loop in
     let s = low_bytes a.k a.x in
-    let n = length-lowBytes a.k a.x in
+    let n = length_low_bytes a.k a.x in
     let h = c.loop-test.true in
-    let byte = low-head a.k l.i l.left s h n l.invariant.3 in (
+    let byte = low_head a.k l.i l.left s h n l.invariant.3 in (
       omega arith,
       simp length-set l.invariant.1,
       ap₂ (λ (d : List ℕ) (b : ℕ). set d (a.at + l.i) b) l.invariant.2 (sym byte)
           ∙ paste-suc a.out.now a.at s l.i 0 (omega (arith, c.before.before.requires)) (omega arith)
           ∙ ap (paste a.out.now a.at s) (sym (add-one l.i)),
-      low-next a.k l.i l.left s h n l.invariant.3,
+      low_next a.k l.i l.left s h n l.invariant.3,
     )
 
 same_length : tie.Need-same-length invariant-loop decreases-loop
@@ -65,5 +65,5 @@ returns c =
     let l = c.before.loop in
     l.invariant.2 ∙ ap (paste a.out.now a.at (low_bytes a.k a.x)) (let d : l.i ≡ a.k = omega arith in d)
 
-pub put-low-spec : {M : Type 1} → statement M
-put-low-spec = tie.close (tie.spec invariant-loop decreases-loop loop-holds cast-out add-out slice-write-out add-i loop-less loop-again same_length returns)
+pub put_low_spec : {M : Type 1} → statement M
+put_low_spec = tie.close (tie.spec invariant-loop decreases-loop loop-holds cast-out add-out slice-write-out add-i loop-less loop-again same_length returns)

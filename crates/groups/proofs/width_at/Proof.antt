@@ -4,8 +4,8 @@ use native.Mathlib.Omega.{arith}
 use mathlib.Core.Path.{◌≡◌, sym, ap, ◌∙◌}
 use Prim.Native.Nat.{ℕ, ◌+◌, ◌*◌}
 use lib.ListN.{drop}
-use Rattle.meaning.specs.Groups.{low, groupSize}
-use Rattle.meaning.proofs.Groups.{fact-at}
+use Rattle.meaning.specs.Groups.{low, group_size}
+use Rattle.meaning.proofs.Groups.{fact_at}
 use Rattle.groups.proofs.width_at.Statement.{statement}
 use Rattle.groups.proofs.width_at.Tie as tie
 
@@ -20,8 +20,8 @@ returns c =
     let b = c.before.before in
     let a = b.args in
     c.eight.ensures
-    ∙ ap (λ (i : ℕ). low 8 (drop i a.groups.now)) (let e : groupSize * a.n ≡ groupSize * a.n + 0 = omega arith in e)
-    ∙ sym (fact-at 0 8 a.n a.groups.now b.requires)
+    ∙ ap (λ (i : ℕ). low 8 (drop i a.groups.now)) (let e : group_size * a.n ≡ group_size * a.n + 0 = omega arith in e)
+    ∙ sym (fact_at 0 8 a.n a.groups.now b.requires)
 
-pub width-at-spec : {M : Type 1} → statement M
-width-at-spec = tie.close (tie.spec mul-eight eight-requires returns)
+pub width_at_spec : {M : Type 1} → statement M
+width_at_spec = tie.close (tie.spec mul-eight eight-requires returns)

@@ -24,5 +24,5 @@ returns c =
     let s = w.before.before.before.before in
     wrote_then w.put_word.ensures (omega (arith, s.requires)) n.put-number.ensures
 
-pub head-line-spec : {M : Type 1} → statement M
-head-line-spec = tie.close (tie.spec slice-aggregate-put-word put-word-requires put-number-requires same_length returns)
+pub head_line_spec : {M : Type 1} → statement M
+head_line_spec = tie.close (tie.spec slice-aggregate-put-word put-word-requires put-number-requires same_length returns)

@@ -3,8 +3,8 @@ use Prim.Native.Nat.{◌≤◌}
 use native.Mathlib.Omega.{arith}
 use lib.ListN.{length}
 use borrow.Author.Rules.{rules}
-use Rattle.lines_digits.proofs.Decimals.{number-room}
-use Rattle.lines_digits.proofs.Puts.{wrote_then, wrote-short, wrote-within, printed}
+use Rattle.lines_digits.proofs.Decimals.{number_room}
+use Rattle.lines_digits.proofs.Puts.{wrote_then, wrote_short, wrote_within, printed}
 use Rattle.lines.proofs.refusal_line.Statement.{statement}
 use Rattle.lines.proofs.refusal_line.Tie as tie
 
@@ -20,7 +20,7 @@ room : (p : tie.After-put-number) → (p.put-number.result ≤ 29) × (64 ≤ le
 room p =
     let w = word_of p in
     let s = from-word w in (
-      let e = wrote-within p.put-number.ensures (number-room _ _) in omega (arith, w.put_word.ensures.ends),
+      let e = wrote_within p.put-number.ensures (number_room _ _) in omega (arith, w.put_word.ensures.ends),
       omega (arith, p.put-number.auto.0, w.put_word.kept.0, s.pre),
     )
 
@@ -58,12 +58,12 @@ returns c =
     let r = room number in
     printed
     (wrote_then word.put_word.ensures (omega (arith, s.pre))
-    (wrote-short number.put-number.ensures (number-room _ _) (omega (arith, s.pre, word.put_word.ensures.ends, word.put_word.kept.0))
+    (wrote_short number.put-number.ensures (number_room _ _) (omega (arith, s.pre, word.put_word.ensures.ends, word.put_word.kept.0))
     (wrote_then at.put-word2.ensures (omega arith)
     place.put-number2.ensures)))
 
-pub refusal-line-spec : {M : Type 1} → statement M
-refusal-line-spec =
+pub refusal_line_spec : {M : Type 1} → statement M
+refusal_line_spec =
     tie.close
     (tie.spec
     slice-aggregate-put-word

@@ -6,19 +6,19 @@ use mathlib.Core.List.{◌++◌}
 use native.Mathlib.Omega.{arith}
 use lib.ListN.{length, get_or}
 use borrow.Author.Rules.{rules}
-use Rattle.meaning.specs.Groups.{groupSize}
-use Rattle.meaning.specs.Tables.{factsIn}
-use Rattle.lines_digits.specs.Report.{headLine, nodeLine, lineIn, linesTo}
+use Rattle.meaning.specs.Groups.{group_size}
+use Rattle.meaning.specs.Tables.{facts_in}
+use Rattle.lines_digits.specs.Report.{head_line, node_line, line_in, lines_to}
 use Rattle.lines_digits.specs.Buffer.{PutAt}
-use Rattle.lines_digits.proofs.Puts.{wrote_then, wrote-text, wrote_none, printed}
-use Rattle.lines.specs.Room.{headRoom, lineRoom}
+use Rattle.lines_digits.proofs.Puts.{wrote_then, wrote_text, wrote_none, printed}
+use Rattle.lines.specs.Room.{head_room, line_room}
 use Rattle.lines.proofs.Lines.{head-room, line-room, lines_more}
 use Rattle.lines.proofs.report.Statement.{statement}
 use Rattle.lines.proofs.report.Tie as tie
 
 abbrev invariant-loop : tie.invariant-loop
 invariant-loop out₀ kinds groups count at₀ k₀ out at k =
-    (k ≤ count) × (at ≤ at₀ + k * lineRoom) × PutAt out₀ at₀ (linesTo (lineIn kinds (factsIn groups)) k) out at × (length out ≡ length out₀)
+    (k ≤ count) × (at ≤ at₀ + k * line_room) × PutAt out₀ at₀ (lines_to (line_in kinds (facts_in groups)) k) out at × (length out ≡ length out₀)
 
 abbrev decreases-loop : tie.decreases-loop
 decreases-loop out₀ kinds groups count at₀ k₀ out at k = count - k
@@ -27,28 +27,28 @@ decreases-loop out₀ kinds groups count at₀ k₀ out at k = count - k
 abbrev Begin : tie.After-slice-known2 invariant-loop decreases-loop → tie.Start invariant-loop decreases-loop
 Begin c = c.before.before.before.before.before.before.before
 
-head-end : (c : tie.After-slice-known2 invariant-loop decreases-loop) → c.before.before.head-line.result ≤ headRoom
-head-end c = omega (arith, c.before.before.head-line.ensures.ends, head-room (Begin c).args.count)
+head_end : (c : tie.After-slice-known2 invariant-loop decreases-loop) → c.before.before.head-line.result ≤ head_room
+head_end c = omega (arith, c.before.before.head-line.ensures.ends, head-room (Begin c).args.count)
 
 -- The buffer is as long as it was, and has room for the next line.
 same : (l : tie.At-loop invariant-loop decreases-loop) → length l.loop.out ≡ length (Begin l.before).args.out.now
 same l = l.loop.invariant.3 ∙ l.before.before.before.head-line.auto.0
 
-room : (l : tie.At-loop invariant-loop decreases-loop) → l.loop.k < (Begin l.before).args.count → l.loop.at + lineRoom ≤ length l.loop.out
-room l h = omega (arith, l.loop.invariant.1, head-end l.before, same l, (Begin l.before).pre.room)
+room : (l : tie.At-loop invariant-loop decreases-loop) → l.loop.k < (Begin l.before).args.count → l.loop.at + line_room ≤ length l.loop.out
+room l h = omega (arith, l.loop.invariant.1, head_end l.before, same l, (Begin l.before).pre.room)
 
 head-line-requires : tie.Need-head-line-requires invariant-loop decreases-loop
 head-line-requires c κs = omega (arith, c.before.before.before.before.requires.room)
 
 loop-holds : tie.Need-loop-init invariant-loop decreases-loop
-unfolding linesTo
+unfolding lines_to
 loop-holds c = (omega arith, omega arith, wrote_none c.before.before.head-line.new.0 c.before.before.head-line.result, refl)
 
 shared-slice-read-node-line : tie.Need-shared-slice-read-node-line invariant-loop decreases-loop
-shared-slice-read-node-line c = omega (arith, (Begin c.before.before.before.before).pre.kinds-reach)
+shared-slice-read-node-line c = omega (arith, (Begin c.before.before.before.before).pre.kinds_reach)
 
 -- The next node has its group.
-grouped : (i : tie.In-loop invariant-loop decreases-loop) → groupSize * (i.before.loop.k + 1) ≤ length (Begin i.before.before).args.groups.now
+grouped : (i : tie.In-loop invariant-loop decreases-loop) → group_size * (i.before.loop.k + 1) ≤ length (Begin i.before.before).args.groups.now
 grouped i = omega (arith, i.loop-test.true, (Begin i.before.before).pre.groups-reach)
 
 width-at-requires : tie.Need-width-at-requires invariant-loop decreases-loop
@@ -100,12 +100,12 @@ loop-again c =
     let width = r.before.before.before.before.width-at in
     let long =
     line-room k (get_or a.kinds.now k 0) width.result size.result padded.result class.result least.result (omega (arith, padded.type-inv)) in
-    let one = lineIn a.kinds.now (factsIn a.groups.now) in
-    let same_line : nodeLine k (get_or a.kinds.now k 0) width.result size.result padded.result class.result least.result ≡ one k =
-    λ i. nodeLine k (get_or a.kinds.now k 0) (width.ensures i) (size.ensures i) (padded.ensures i) (class.ensures i) (least.ensures i) in (
+    let one = line_in a.kinds.now (facts_in a.groups.now) in
+    let same_line : node_line k (get_or a.kinds.now k 0) width.result size.result padded.result class.result least.result ≡ one k =
+    λ i. node_line k (get_or a.kinds.now k 0) (width.ensures i) (size.ensures i) (padded.ensures i) (class.ensures i) (least.ensures i) in (
       omega arith,
       omega (arith, n.node-line.ensures.ends, l.loop.inv.1),
-      wrote-text (ap (λ s. linesTo one k ++ s) same_line ∙ sym (lines_more one k))
+      wrote_text (ap (λ s. lines_to one k ++ s) same_line ∙ sym (lines_more one k))
           (wrote_then w (omega (arith, w.ends, room l i.loop-test.taken, l.loop.inv.3)) n.node-line.ensures),
       n.node-line.auto.0 ∙ l.loop.inv.3,
     )
@@ -121,11 +121,11 @@ returns c =
     let a = s.args in
     let e : l.loop.k ≡ a.count = omega arith in
     printed
-    (wrote-text (ap (λ n. headLine a.count ++ linesTo (lineIn a.kinds.now (factsIn a.groups.now)) n) e)
+    (wrote_text (ap (λ n. head_line a.count ++ lines_to (line_in a.kinds.now (facts_in a.groups.now)) n) e)
     (wrote_then h.ensures (omega (arith, head-room a.count, s.pre.room)) l.loop.invariant.2))
 
-pub report-spec : {M : Type 1} → statement M
-report-spec =
+pub report_spec : {M : Type 1} → statement M
+report_spec =
     tie.close
     (tie.spec
     invariant-loop

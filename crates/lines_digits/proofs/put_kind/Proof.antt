@@ -3,16 +3,16 @@ use Prim.Native.Nat.{ℕ, zero, suc}
 use mathlib.Core.Path.{◌≡◌, refl, ap, sym}
 use mathlib.Core.List.{◌++◌}
 use borrow.Author.Rules.{rules}
-use Rattle.lines_digits.specs.Report.{ascii, kindWord}
-use Rattle.lines_digits.proofs.Puts.{wrote-text}
+use Rattle.lines_digits.specs.Report.{ascii, kind_word}
+use Rattle.lines_digits.proofs.Puts.{wrote_text}
 use Rattle.lines_digits.proofs.put_kind.Statement.{statement}
 use Rattle.lines_digits.proofs.put_kind.Tie as tie
 
 -- A kind that is neither 0 nor 1 is a product's.
-product-word : (k : ℕ) → (k ≡ 0 → ⊥) → (k ≡ 1 → ⊥) → ascii "product" ≡ kindWord k
-product-word zero a b = absurd (a refl)
-product-word (suc zero) a b = absurd (b refl)
-product-word (suc (suc k)) a b = refl
+product_word : (k : ℕ) → (k ≡ 0 → ⊥) → (k ≡ 1 → ⊥) → ascii "product" ≡ kind_word k
+product_word zero a b = absurd (a refl)
+product_word (suc zero) a b = absurd (b refl)
+product_word (suc (suc k)) a b = refl
 
 slice-aggregate-put-word : tie.Need-slice-aggregate-put-word
 slice-aggregate-put-word c = search rules
@@ -25,7 +25,7 @@ same_length c = search rules
 
 returns : tie.Need-returns
 returns c =
-    wrote-text (ap (λ k. kindWord k ++ ascii " ") (sym c.before.before.before.before.before.if1.true)) c.before.before.put_word.ensures
+    wrote_text (ap (λ k. kind_word k ++ ascii " ") (sym c.before.before.before.before.before.if1.true)) c.before.before.put_word.ensures
 
 slice-aggregate-put-word-2 : tie.Need-slice-aggregate-put-word-2
 slice-aggregate-put-word-2 c = search rules
@@ -38,7 +38,7 @@ same-length-2 c = search rules
 
 returns-2 : tie.Need-returns-2
 returns-2 c =
-    wrote-text (ap (λ k. kindWord k ++ ascii " ") (sym c.before.before.before.before.before.if2.true)) c.before.before.put-word2.ensures
+    wrote_text (ap (λ k. kind_word k ++ ascii " ") (sym c.before.before.before.before.before.if2.true)) c.before.before.put-word2.ensures
 
 slice-aggregate-put-word-3 : tie.Need-slice-aggregate-put-word-3
 slice-aggregate-put-word-3 c = search rules
@@ -52,10 +52,10 @@ same-length-3 c = search rules
 returns-3 : tie.Need-returns-3
 returns-3 c =
     let e = c.before.before.before.before.before in
-    wrote-text (ap (λ w. w ++ ascii " ") (product-word _ e.before.if1.false e.if2.false)) c.before.before.put-word3.ensures
+    wrote_text (ap (λ w. w ++ ascii " ") (product_word _ e.before.if1.false e.if2.false)) c.before.before.put-word3.ensures
 
-pub put-kind-spec : {M : Type 1} → statement M
-put-kind-spec =
+pub put_kind_spec : {M : Type 1} → statement M
+put_kind_spec =
     tie.close
     (tie.spec
     slice-aggregate-put-word

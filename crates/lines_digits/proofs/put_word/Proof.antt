@@ -63,7 +63,7 @@ returns c =
           ∙ ap (λ w. take a.at a.out.now ++ w ++ drop (a.at + length a.word.now) a.out.now) (take-length a.word.now);
     }
 
-pub put-word-spec : {M : Type 1} → statement M
-put-word-spec =
+pub put_word_spec : {M : Type 1} → statement M
+put_word_spec =
     tie.close
     (tie.spec invariant-loop decreases-loop loop-holds shared-slice-read-out add-out slice-write-out add-k loop-less loop-again add-result same_length returns)

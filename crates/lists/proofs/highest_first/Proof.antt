@@ -34,8 +34,8 @@ loop-again c = search rules
 returns : tie.Need-returns invariant-loop decreases-loop
 returns c = search rules
 
-pub highest-first-spec : {M : Type 1} → statement M
-highest-first-spec =
+pub highest_first_spec : {M : Type 1} → statement M
+highest_first_spec =
     tie.close
     (tie.spec
     invariant-loop

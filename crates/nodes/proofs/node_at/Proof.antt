@@ -5,10 +5,10 @@ use mathlib.Core.Path.{◌≡◌, refl, ap, ◌∙◌}
 use Prim.Native.Nat.{ℕ, ◌+◌, ◌*◌, ◌≤◌, ◌<◌}
 use lib.Dec.{eqb}
 use lib.ListN.{length}
-use Rattle.meaning.specs.Groups.{groupSize}
+use Rattle.meaning.specs.Groups.{group_size}
 use Rattle.meaning.specs.Tables.{Table, table, left, right}
-use Rattle.meaning.proofs.Sounds.{sound-tree, sound-kind, sound-left, sound-right-side, sound-left-falls, sound-right-falls, sound-width, sound-padded, sound-class}
-use Rattle.meaning.proofs.GroupLaws.{sound-group}
+use Rattle.meaning.proofs.Sounds.{sound_tree, sound_kind, sound_left, sound_right_side, sound_left_falls, sound_right_falls, sound_width, sound_padded, sound_class}
+use Rattle.meaning.proofs.GroupLaws.{sound_group}
 use Rattle.nodes.proofs.node_at.Statement.{statement}
 use Rattle.nodes.proofs.node_at.Tie as tie
 
@@ -18,14 +18,14 @@ of c = table c.args.kinds.now c.args.lefts.now c.args.rights.now c.args.groups.n
 
 -- Both sides are in the table.
 left_in : (c : tie.Start) → left (of c).columns c.args.n < c.args.count
-left_in c = sound-left (of c) c.requires.0 c.args.n c.requires.1
+left_in c = sound_left (of c) c.requires.0 c.args.n c.requires.1
 
-right-in : (c : tie.Start) → right (of c).columns c.args.n < c.args.count
-right-in c = sound-right-side (of c) c.requires.0 c.args.n c.requires.1
+right_in : (c : tie.Start) → right (of c).columns c.args.n < c.args.count
+right_in c = sound_right_side (of c) c.requires.0 c.args.n c.requires.1
 
 -- A node of the table has a group.
-grouped : (c : tie.Start) (k : ℕ) → k < c.args.count → groupSize * (k + 1) ≤ length c.args.groups.now
-grouped c k h = sound-group c.args.kinds.now c.args.lefts.now c.args.rights.now c.args.groups.now c.args.count k c.requires.0 h
+grouped : (c : tie.Start) (k : ℕ) → k < c.args.count → group_size * (k + 1) ≤ length c.args.groups.now
+grouped c k h = sound_group c.args.kinds.now c.args.lefts.now c.args.rights.now c.args.groups.now c.args.count k c.requires.0 h
 
 mul_left : tie.Need-overflow-mul-left
 mul_left c = search rules
@@ -44,7 +44,7 @@ shared-slice-read-right c = search rules
 
 cast-right : tie.Need-overflow-cast-right
 cast-right c =
-    let b = c.before.before.before.before.before.before in let r = right-in b in let f = b.ranges.count in record { fits = omega arith }
+    let b = c.before.before.before.before.before.before in let r = right_in b in let f = b.ranges.count in record { fits = omega arith }
 
 shared-slice-read-t14 : tie.Need-shared-slice-read-t14
 shared-slice-read-t14 c = search rules
@@ -60,7 +60,7 @@ width-at-requires-2 : tie.Need-width-at-requires-2
 width-at-requires-2 c κs = let s = start c.before in grouped s (left (of s).columns s.args.n) (left_in s)
 
 width-at-requires-3 : tie.Need-width-at-requires-3
-width-at-requires-3 c κs = let s = start c.before.before in grouped s (right (of s).columns s.args.n) (right-in s)
+width-at-requires-3 c κs = let s = start c.before.before in grouped s (right (of s).columns s.args.n) (right_in s)
 
 padded-at-requires : tie.Need-padded-at-requires
 padded-at-requires c κs = let s = start c.before.before.before in grouped s s.args.n s.pre.1
@@ -82,19 +82,19 @@ returns c =
     let n = b.args.n in
     let h = b.pre.1 in
     record {
-      tree = sound-tree t s n h;
-      kind-low = sound-kind t s n h;
+      tree = sound_tree t s n h;
+      kind_low = sound_kind t s n h;
       left_is = refl;
       right_is = refl;
-      left_in = sound-left t s n h;
-      right-in = sound-right-side t s n h;
-      left-falls = sound-left-falls t s n h;
-      right-falls = sound-right-falls t s n h;
-      width_is = w1.width-at.ensures ∙ sound-width t s n h;
-      left-width-is = w2.width-at2.ensures ∙ sound-width t s (left t.columns n) (sound-left t s n h);
-      right-width-is = w3.width-at3.ensures ∙ sound-width t s (right t.columns n) (sound-right-side t s n h);
-      padded-is = ap (λ (x : ℕ). eqb x 1) c.before.padded-at.ensures ∙ sound-padded t s n h;
-      class-is = c.class-at.ensures ∙ sound-class t s n h;
+      left_in = sound_left t s n h;
+      right_in = sound_right_side t s n h;
+      left_falls = sound_left_falls t s n h;
+      right_falls = sound_right_falls t s n h;
+      width_is = w1.width-at.ensures ∙ sound_width t s n h;
+      left_width_is = w2.width-at2.ensures ∙ sound_width t s (left t.columns n) (sound_left t s n h);
+      right_width_is = w3.width-at3.ensures ∙ sound_width t s (right t.columns n) (sound_right_side t s n h);
+      padded_is = ap (λ (x : ℕ). eqb x 1) c.before.padded-at.ensures ∙ sound_padded t s n h;
+      class_is = c.class-at.ensures ∙ sound_class t s n h;
     }
 
 pub node_at_spec : {M : Type 1} → statement M

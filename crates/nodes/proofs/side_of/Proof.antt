@@ -11,5 +11,5 @@ returns c = ap (λ (g : Bool). side_of g c.before.args.n) (sym c.if1.true)
 returns-2 : tie.Need-returns-2
 returns-2 c = ap (λ (g : Bool). side_of g c.before.args.n) (sym c.if1.false)
 
-pub side-of-spec : {M : Type 1} → statement M
-side-of-spec = tie.close (tie.spec returns returns-2)
+pub side_of_spec : {M : Type 1} → statement M
+side_of_spec = tie.close (tie.spec returns returns-2)

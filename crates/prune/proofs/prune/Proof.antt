@@ -15,15 +15,15 @@ use Rattle.meaning.specs.Bits.{bits_of, written}
 use Rattle.meaning.specs.Tables.{Table, table}
 use Rattle.meaning.specs.Ladder.{accepted, Rung, ladder, Record, record_of, type_at, shaped}
 use Rattle.meaning.specs.RecordCalls.{handed}
-use Rattle.meaning.specs.CutCalls.{isCut, cutBits, cut_of, pruneRungs}
-use Rattle.bits.proofs.OfBytes.{are-bytes}
+use Rattle.meaning.specs.CutCalls.{is_cut, cut_bits, cut_of, prune_rungs}
+use Rattle.bits.proofs.OfBytes.{are_bytes}
 use Rattle.bits.proofs.Packed.{finished}
 use Rattle.checked.specs.Passed.{Named, Held}
-use Rattle.checked.proofs.Passed.{handed-passed}
+use Rattle.checked.proofs.Passed.{handed_passed}
 use Rattle.checked.proofs.Lent as lent
-use Rattle.checked.proofs.Made.{stopped, short, done, first-stopped}
-use Rattle.checked.proofs.Shaped.{shape-wrong, shape-right}
-use Rattle.prune.proofs.Lent.{lent_cut, cut-length}
+use Rattle.checked.proofs.Made.{stopped, short, done, first_stopped}
+use Rattle.checked.proofs.Shaped.{shape_wrong, shape-right}
+use Rattle.prune.proofs.Lent.{lent_cut, cut_length}
 use Rattle.prune.proofs.prune.Statement.{statement}
 use Rattle.prune.proofs.prune.Tie as tie
 
@@ -36,17 +36,17 @@ abbrev given : tie.Start → Record
 given c = record_of c.args.bytes.now c.args.offset c.args.node
 
 abbrev fitting : tie.Start → Bool
-fitting c = isCut (cut_of (of c) (given c) c.args.target)
+fitting c = is_cut (cut_of (of c) (given c) c.args.target)
 
 abbrev cutting : tie.Start → List Bool
-cutting c = cutBits (cut_of (of c) (given c) c.args.target)
+cutting c = cut_bits (cut_of (of c) (given c) c.args.target)
 
 -- The first rungs, 1 to 5, and all before the room.
 abbrev firsts : tie.Start → List Rung
 firsts c = handed (of c) (given c ∷ []) (c.args.target ∷ [])
 
 abbrev rungs : tie.Start → List Rung
-rungs c = pruneRungs (of c) (given c) c.args.target
+rungs c = prune_rungs (of c) (given c) c.args.target
 
 record-to-requires : tie.Need-record-to-requires
 record-to-requires c κs = search rules
@@ -58,7 +58,7 @@ returns : tie.Need-returns
 returns c =
     let s = c.before.before.before.before.before.before.before.before.before.before in
     let r = c.before.judged.given in
-    first-stopped (firsts s) (shaped (fitting s)) (cutting s) s.args.out.now r.0.0.number r.0.0.place
+    first_stopped (firsts s) (shaped (fitting s)) (cutting s) s.args.out.now r.0.0.number r.0.0.place
     (sym c.before.before.before.record-to.ensures ∙ ap done_of r.1)
 
 enum_told : tie.Need-enum-told
@@ -73,11 +73,11 @@ passes c = sym c.before.before.record-to.ensures ∙ ap done_of c.enum_told.give
 
 held : (c : tie.After-enum-told) → Held (of (start c)) (given (start c))
 held c =
-    let s = start c in (handed-passed (of s) (given s ∷ []) (s.args.target ∷ []) (passes c)).0.0
+    let s = start c in (handed_passed (of s) (given s ∷ []) (s.args.target ∷ []) (passes c)).0.0
 
 named : (c : tie.After-enum-told) → Named (of (start c)) (start c).args.target
 named c =
-    let s = start c in (handed-passed (of s) (given s ∷ []) (s.args.target ∷ []) (passes c)).1.0
+    let s = start c in (handed_passed (of s) (given s ∷ []) (s.args.target ∷ []) (passes c)).1.0
 
 begins : (c : tie.After-enum-told) → (start c).args.offset / 8 ≤ length (start c).args.bytes.now
 begins c = let s = start c in lent.starts (of s) (given s) (held c)
@@ -95,27 +95,27 @@ fits-requires : tie.Need-fits-requires
 fits-requires c κs =
     let s = start c.before in
     let h = held c.before in
-    (h.named, (named c.before, lent.lent-run (of s) (given s) h (bits (type_at (of s) s.args.node)) refl))
+    (h.named, (named c.before, lent.lent_run (of s) (given s) h (bits (type_at (of s) s.args.node)) refl))
 
 -- What the first walk found of the record.
-judged-cut : (c : tie.After-fits2) → c.fits2.result ≡ fitting (start c.before.before)
-judged-cut c =
+judged_cut : (c : tie.After-fits2) → c.fits2.result ≡ fitting (start c.before.before)
+judged_cut c =
     let s = start c.before.before in
-    c.fits2.ensures ∙ ap isCut (lent_cut (of s) (given s) s.args.target (held c.before.before))
+    c.fits2.ensures ∙ ap is_cut (lent_cut (of s) (given s) s.args.target (held c.before.before))
 
 returns-2 : tie.Need-returns-2
 returns-2 c =
     let s = start c.before.before.before in
     stopped (rungs s) (cutting s) s.args.out.now 7 0
-    (shape-wrong (firsts s) (fitting s) (passes c.before.before.before)
-    (sym (judged-cut c.before) ∙ not-true c.before.fits2.result c.if1.true))
+    (shape_wrong (firsts s) (fitting s) (passes c.before.before.before)
+    (sym (judged_cut c.before) ∙ not-true c.before.fits2.result c.if1.true))
 
 -- The record has the target's shape.
 abbrev told : tie.Else1 → tie.After-enum-told
 told c = c.before.before.before
 
 accepts : (c : tie.Else1) → fitting (start (told c)) ≡ true
-accepts c = sym (judged-cut c.before) ∙ not-false c.before.fits2.result c.if1.false
+accepts c = sym (judged_cut c.before) ∙ not-false c.before.fits2.result c.if1.false
 
 clear : (c : tie.Else1) → ladder (rungs (start (told c))) (tt {0}) ≡ accepted (tt {0})
 clear c = let s = start (told c) in shape-right (firsts s) (fitting s) (passes (told c)) (accepts c)
@@ -130,7 +130,7 @@ begin c = start (told c.before)
 long : (c : tie.After-width-of) → length (cutting (begin c)) ≡ c.width_of_lem.result
 long c =
     let s = begin c in
-    cut-length (of s) (given s) s.args.target (held (told c.before)) (accepts c.before) ∙ sym c.width_of_lem.ensures
+    cut_length (of s) (given s) s.args.target (held (told c.before)) (accepts c.before) ∙ sym c.width_of_lem.ensures
 
 bytes-for-requires : tie.Need-bytes-for-requires
 bytes-for-requires c κs = omega (arith, c.width_of_lem.ensures, (named (told c.before)).narrow)
@@ -159,9 +159,9 @@ write-requires c κs =
       (
         g,
         (
-          lent.lent-run (of s) (given s) h (bits (type_at (of s) s.args.node)) refl,
+          lent.lent_run (of s) (given s) h (bits (type_at (of s) s.args.node)) refl,
           (
-            ap isCut (lent_cut (of s) (given s) s.args.target h) ∙ accepts d.before,
+            ap is_cut (lent_cut (of s) (given s) s.args.target h) ∙ accepts d.before,
             record { inside = omega arith; counted = omega arith },
           ),
         ),
@@ -189,11 +189,11 @@ holds c =
     let mid = wrote.new.1.1.1.1.1.1.1.1.1.0 in
     let new = c.before.before.finish.new.0 in
     finished (cutting s) d.width_of_lem.result old mid new (long d)
-    (are-bytes old d.before.before.before.before.before.before.before.slice-known.given)
-    (are-bytes new c.slice-known3.given)
+    (are_bytes old d.before.before.before.before.before.before.before.slice-known.given)
+    (are_bytes new c.slice-known3.given)
     (wrote.ensures
     ∙ ap₂ (λ (x : List Bool) (n : ℕ). paste (bits_of old) 0 x n)
-    (ap cutBits (lent_cut (of s) (given s) s.args.target (held (told d.before)))) (sym d.width_of_lem.ensures))
+    (ap cut_bits (lent_cut (of s) (given s) s.args.target (held (told d.before)))) (sym d.width_of_lem.ensures))
     c.before.before.finish.ensures
 
 returns-4 : tie.Need-returns-4
@@ -207,8 +207,8 @@ returns-4 c =
     done (rungs s) (cutting s) s.args.out.now (clear d.before) (omega arith) d.width_of_lem.result (sym e)
     c.before.before.finish.new.0 (holds c)
 
-pub prune-spec : {M : Type 1} → statement M
-prune-spec =
+pub prune_spec : {M : Type 1} → statement M
+prune_spec =
     tie.close
     (tie.spec
     record-to-requires

@@ -18,7 +18,7 @@ returns : tie.Need-returns
 returns c =
     let n = c.before.before.args.n in
     let e = c.before.side-of.ensures in
-    record { node-is = ap (λ (x : Side). x.node) e; before-is = ap (λ (x : Side). n.width - x.width) e }
+    record { node_is = ap (λ (x : Side). x.node) e; before_is = ap (λ (x : Side). n.width - x.width) e }
 
-pub under-tag-spec : {M : Type 1} → statement M
-under-tag-spec = tie.close (tie.spec side-of-requires sub-t5 returns)
+pub under_tag_spec : {M : Type 1} → statement M
+under_tag_spec = tie.close (tie.spec side-of-requires sub-t5 returns)

@@ -21,6 +21,6 @@ as-expected-requires c κs =
 returns : tie.Need-returns
 returns c = search rules
 
-pub outputs-agree-spec : {M : Type 1} → statement M
-outputs-agree-spec =
+pub outputs_agree_spec : {M : Type 1} → statement M
+outputs_agree_spec =
     tie.close (tie.spec slice-aggregate-ask ask-requires slice-aggregate-as-expected as-expected-requires returns)

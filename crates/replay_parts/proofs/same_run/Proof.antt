@@ -18,5 +18,5 @@ same-bytes-requires c κs = search rules
 returns : tie.Need-returns
 returns c = search rules
 
-pub same-run-spec : {M : Type 1} → statement M
-same-run-spec = tie.close (tie.spec slice-aggregate-same-bytes run-bytes-requires same-bytes-requires returns)
+pub same_run_spec : {M : Type 1} → statement M
+same_run_spec = tie.close (tie.spec slice-aggregate-same-bytes run-bytes-requires same-bytes-requires returns)

@@ -49,8 +49,8 @@ loop-again c = search rules
 returns-4 : tie.Need-returns-4 invariant-loop decreases-loop
 returns-4 c = search rules
 
-pub same-values-spec : {M : Type 1} → statement M
-same-values-spec =
+pub same_values_spec : {M : Type 1} → statement M
+same_values_spec =
     tie.close
     (tie.spec
     invariant-loop

@@ -41,8 +41,8 @@ write-all-requires c κs = search rules
 returns : tie.Need-returns
 returns c = search rules
 
-pub report-of-spec : {M : Type 1} → statement M
-report-of-spec =
+pub report_of_spec : {M : Type 1} → statement M
+report_of_spec =
     tie.close
     (tie.spec
     slice-aggregate-read-full

@@ -7,11 +7,11 @@ use mathlib.Core.Path.{◌≡◌, sym, ◌∙◌, ap, subst}
 use mathlib.Core.List.{List}
 use Rattle.answers.specs.Verdicts.{count_of}
 use Rattle.meaning.specs.Ladder.{accepted, refused}
-use Rattle.meaning.specs.TypeCalls.{readTableCall}
-use Rattle.lines_digits.specs.Report.{groupsText, refusalLine}
+use Rattle.meaning.specs.TypeCalls.{read_table_call}
+use Rattle.lines_digits.specs.Report.{groups_text, refusal_line}
 use Rattle.lines_digits.specs.Buffer.{Printed}
-use Rattle.lines.proofs.Texts.{accepted-text, refused-text}
-use Rattle.reports.proofs.Room.{zeroColumns, zeroGroups, only-faults, few}
+use Rattle.lines.proofs.Texts.{accepted_text, refused_text}
+use Rattle.reports.proofs.Room.{zero_columns, zero_groups, only_faults, few}
 use Rattle.reports.proofs.report_file.Statement.{statement}
 use Rattle.reports.proofs.report_file.Tie as tie
 
@@ -53,17 +53,17 @@ told c = c.before.before.before.before
 abbrev left : tie.After-groups3 → tie.After-groups2
 left c = (told c).before.before
 
-few-nodes : (c : tie.After-groups3) → (told c).read.given.0.0 ≤ 1024
-few-nodes c =
+few_nodes : (c : tie.After-groups3) → (told c).read.given.0.0 ≤ 1024
+few_nodes c =
     let g = (told c).read.given in
     few (start (left c)).args.file.now g.0.0 (sym (ap count_of g.1) ∙ (called (left c)).read_table.ensures.0)
 
 report-requires : tie.Need-report-requires
 report-requires c κs =
-    let n = few-nodes c in
+    let n = few_nodes c in
     let room = (start (left c)).requires in
     let z = (called (left c)).read_table.auto in
-    record { room = omega arith; kinds-reach = omega arith; groups-reach = omega arith }
+    record { room = omega arith; kinds_reach = omega arith; groups-reach = omega arith }
 
 enum-known-read-2 : tie.Need-enum-known-read-2
 enum-known-read-2 c = search rules
@@ -81,10 +81,10 @@ returns c =
     let rt = (called (left d)).read_table in
     let g = (told d).read.given in
     let file = s.args.file.now in
-    let e : readTableCall file zeroColumns zeroGroups ≡ accepted g.0.0 = sym rt.ensures.0 ∙ ap count_of g.1 in
+    let e : read_table_call file zero_columns zero_groups ≡ accepted g.0.0 = sym rt.ensures.0 ∙ ap count_of g.1 in
     let q = rt.ensures.1 in
     subst (λ (t : List ℕ). Printed s.args.out.now t c.before.before.report.new.0 c.before.before.report.result)
-    ((λ i. groupsText (q.0 i) (q.1.1.1 i) g.0.0) ∙ accepted-text file zeroColumns zeroGroups g.0.0 (few-nodes d) e)
+    ((λ i. groups_text (q.0 i) (q.1.1.1 i) g.0.0) ∙ accepted_text file zero_columns zero_groups g.0.0 (few_nodes d) e)
     c.before.before.report.ensures
 
 same-length-2 : tie.Need-same-length-2
@@ -97,15 +97,15 @@ returns-2 c =
     let rt = (called d.before.before).read_table in
     let g = d.read2.given in
     let file = s.args.file.now in
-    let e : refused g.0.0.number g.0.0.place ≡ readTableCall file zeroColumns zeroGroups = sym (ap count_of g.1) ∙ rt.ensures.0 in
-    let one = only-faults file g.0.0.number g.0.0.place e in
-    let f : readTableCall file zeroColumns zeroGroups ≡ refused 1 g.0.0.place = sym e ∙ ap (λ (m : ℕ). refused m g.0.0.place) one in
+    let e : refused g.0.0.number g.0.0.place ≡ read_table_call file zero_columns zero_groups = sym (ap count_of g.1) ∙ rt.ensures.0 in
+    let one = only_faults file g.0.0.number g.0.0.place e in
+    let f : read_table_call file zero_columns zero_groups ≡ refused 1 g.0.0.place = sym e ∙ ap (λ (m : ℕ). refused m g.0.0.place) one in
     subst (λ (t : List ℕ). Printed s.args.out.now t c.before.before.refusal-line.new.0 c.before.before.refusal-line.result)
-    (ap (λ (m : ℕ). refusalLine m g.0.0.place) one ∙ refused-text file zeroColumns zeroGroups g.0.0.place f)
+    (ap (λ (m : ℕ). refusal_line m g.0.0.place) one ∙ refused_text file zero_columns zero_groups g.0.0.place f)
     c.before.before.refusal-line.ensures
 
-pub report-file-spec : {M : Type 1} → statement M
-report-file-spec =
+pub report_file_spec : {M : Type 1} → statement M
+report_file_spec =
     tie.close
     (tie.spec
     slice-aggregate-read-table

@@ -57,8 +57,8 @@ loop-again c = search rules
 returns : tie.Need-returns invariant-loop decreases-loop
 returns c = search rules
 
-pub print-calls-spec : {M : Type 1} → statement M
-print-calls-spec =
+pub print_calls_spec : {M : Type 1} → statement M
+print_calls_spec =
     tie.close
     (tie.spec
     invariant-loop

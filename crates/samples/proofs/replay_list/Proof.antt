@@ -68,8 +68,8 @@ returns-2 c = search rules
 returns-3 : tie.Need-returns-3 invariant-loop decreases-loop
 returns-3 c = search rules
 
-pub replay-list-spec : {M : Type 1} → statement M
-replay-list-spec =
+pub replay_list_spec : {M : Type 1} → statement M
+replay_list_spec =
     tie.close
     (tie.spec
     invariant-loop

@@ -3,9 +3,9 @@ use Prim.Native.Nat.{◌^◌}
 use mathlib.Core.Path.{◌≡◌, ◌∙◌}
 use native.Mathlib.Omega.{arith}
 use borrow.Author.Rules.{rules}
-use Rattle.meaning.proofs.Powers.{pow-twelve}
+use Rattle.meaning.proofs.Powers.{pow_twelve}
 use Rattle.meaning.proofs.WordWidths.{word-widths}
-use Rattle.meaning.proofs.Buffers.{bits-buffer}
+use Rattle.meaning.proofs.Buffers.{bits_buffer}
 use Rattle.shapes.proofs.buffer_width.Statement.{statement}
 use Rattle.shapes.proofs.buffer_width.Tie as tie
 
@@ -17,16 +17,16 @@ word-width-requires : tie.Need-word-width-requires
 word-width-requires c κs = search rules
 
 mul-result : tie.Need-overflow-mul-result
-mul-result c = let p = power c in let l = pow-twelve c.before.args.n (omega arith) in omega arith
+mul-result c = let p = power c in let l = pow_twelve c.before.args.n (omega arith) in omega arith
 
 add-result : tie.Need-overflow-add-result
-add-result c = let p = power c in let l = pow-twelve c.before.args.n (omega arith) in omega arith
+add-result c = let p = power c in let l = pow_twelve c.before.args.n (omega arith) in omega arith
 
 sub-result : tie.Need-overflow-sub-result
-sub-result c = let p = power c in let l = pow-twelve c.before.args.n (omega arith) in omega arith
+sub-result c = let p = power c in let l = pow_twelve c.before.args.n (omega arith) in omega arith
 
 returns : tie.Need-returns
-returns c = let p = power c in let b = bits-buffer c.before.args.n in omega arith
+returns c = let p = power c in let b = bits_buffer c.before.args.n in omega arith
 
-pub buffer-width-spec : {M : Type 1} → statement M
-buffer-width-spec = tie.close (tie.spec word-width-requires mul-result add-result sub-result returns)
+pub buffer_width_spec : {M : Type 1} → statement M
+buffer_width_spec = tie.close (tie.spec word-width-requires mul-result add-result sub-result returns)

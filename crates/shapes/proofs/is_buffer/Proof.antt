@@ -8,7 +8,7 @@ use borrow.Author.Tests.{not-true, not-false}
 use Rattle.meaning.specs.Types.{same}
 use Rattle.meaning.specs.Tables.{Table, table, columns, ty_at}
 use Rattle.meaning.specs.Words.{buffer}
-use Rattle.shapes.proofs.Shapes.{read-buffer, read-no-buffer}
+use Rattle.shapes.proofs.Shapes.{read_buffer, read_no_buffer}
 use Rattle.shapes.proofs.is_buffer.Statement.{statement}
 use Rattle.shapes.proofs.is_buffer.Tie as tie
 
@@ -35,7 +35,7 @@ node-at-requires c κs = (c.before.before.before.before.before.before.requires.0
 returns : tie.Need-returns invariant-loop decreases-loop
 returns c =
     let l = c.before.before.before.before.loop in
-    sym (l.invariant.2 ∙ read-no-buffer (of c.before.before.before.before.before.before.before.before.before) c.before.before.Node-at.ensures l.below c.before.before.before.loop-test.true c.if1.true)
+    sym (l.invariant.2 ∙ read_no_buffer (of c.before.before.before.before.before.before.before.before.before) c.before.before.Node-at.ensures l.below c.before.before.before.loop-test.true c.if1.true)
 
 is-segment-requires : tie.Need-is-segment-requires invariant-loop decreases-loop
 is-segment-requires c κs = (c.before.before.before.before.before.before.before.before.before.requires.0, (c.before.before.Node-at.ensures.left_in, omega arith))
@@ -46,7 +46,7 @@ returns-2 c =
     let pair = c.before.before.before.before.Node-at in
     sym
     (l.invariant.2
-    ∙ read-buffer (of c.before.before.before.before.before.before.before.before.before.before.before) pair.ensures l.below c.before.before.before.before.before.loop-test.true c.before.before.if1.false
+    ∙ read_buffer (of c.before.before.before.before.before.before.before.before.before.before.before) pair.ensures l.below c.before.before.before.before.before.loop-test.true c.before.before.if1.false
     ∙ ap (λ (b : Bool). b && same (ty_at (of c.before.before.before.before.before.before.before.before.before.before.before).columns pair.result.right) (buffer (l.below - 1)))
     (sym c.before.is-segment.ensures ∙ not-true c.before.is-segment.result c.if2.true))
 
@@ -60,10 +60,10 @@ loop-again : tie.Need-loop-preserved invariant-loop decreases-loop
 loop-again c =
     let l = c.before.before.before.before.before.before.loop in
     let pair = c.before.before.before.before.Node-at in (
-      pair.ensures.right-in,
+      pair.ensures.right_in,
       omega arith,
       l.invariant.2
-          ∙ read-buffer (of c.before.before.before.before.before.before.before.before.before.before.before) pair.ensures l.below c.before.before.before.before.before.loop-test.true c.before.before.if1.false
+          ∙ read_buffer (of c.before.before.before.before.before.before.before.before.before.before.before) pair.ensures l.below c.before.before.before.before.before.loop-test.true c.before.before.if1.false
           ∙ ap (λ (b : Bool). b && same (ty_at (of c.before.before.before.before.before.before.before.before.before.before.before).columns pair.result.right) (buffer (l.below - 1)))
           (sym c.before.is-segment.ensures ∙ not-false c.before.is-segment.result c.if2.false),
     )
@@ -80,8 +80,8 @@ returns-3 c =
     ∙ ap (λ (m : ℕ). same (ty_at (of c.before.before.before.before.before.before.before).columns l.at) (buffer m)) (sym end)
     ∙ sym l.invariant.2
 
-pub is-buffer-spec : {M : Type 1} → statement M
-is-buffer-spec =
+pub is_buffer_spec : {M : Type 1} → statement M
+is_buffer_spec =
     tie.close
     (tie.spec
     invariant-loop

@@ -6,9 +6,9 @@ use borrow.Author.Rules.{rules}
 use borrow.Author.Tests.{not-true, not-false}
 use Rattle.meaning.specs.Types.{same}
 use Rattle.meaning.specs.Tables.{Table, table, ty_at}
-use Rattle.meaning.specs.Words.{isWord, buffer}
-use Rattle.meaning.proofs.Tests.{and-no-right}
-use Rattle.shapes.proofs.Shapes.{read-state, read-no-state, read-no-rest}
+use Rattle.meaning.specs.Words.{is_word, buffer}
+use Rattle.meaning.proofs.Tests.{and_no_right}
+use Rattle.shapes.proofs.Shapes.{read_state, read_no_state, read_no_rest}
 use Rattle.shapes.proofs.is_ctx8.Statement.{statement}
 use Rattle.shapes.proofs.is_ctx8.Tie as tie
 
@@ -26,13 +26,13 @@ node-at-requires : tie.Need-node-at-requires
 node-at-requires c κs = search rules
 
 returns : tie.Need-returns
-returns c = sym (read-no-state (of c.before.before.before.before.before.before.before) c.before.before.Node-at.ensures c.if1.true)
+returns c = sym (read_no_state (of c.before.before.before.before.before.before.before) c.before.before.Node-at.ensures c.if1.true)
 
 node-at-requires-2 : tie.Need-node-at-requires-2
-node-at-requires-2 c κs = (c.before.before.before.before.before.before.before.requires.0, c.before.before.Node-at.ensures.right-in)
+node-at-requires-2 c κs = (c.before.before.before.before.before.before.before.requires.0, c.before.before.Node-at.ensures.right_in)
 
 returns-2 : tie.Need-returns-2
-returns-2 c = sym (read-no-rest (of c.before.before.before.before.before.before.before.before.before.before) c.before.before.before.before.before.Node-at.ensures c.before.before.node-at2.ensures c.before.before.before.if1.false c.if2.true)
+returns-2 c = sym (read_no_rest (of c.before.before.before.before.before.before.before.before.before.before) c.before.before.before.before.before.Node-at.ensures c.before.before.node-at2.ensures c.before.before.before.if1.false c.if2.true)
 
 is-word-requires : tie.Need-is-word-requires
 is-word-requires c κs = (c.before.before.before.before.before.before.before.before.before.before.requires.0, c.before.before.node-at2.ensures.left_in)
@@ -42,24 +42,24 @@ returns-3 c =
     let state = c.before.before.before.before.before.before.before.Node-at in
     let rest = c.before.before.before.before.node-at2 in
     sym
-    (read-state (of c.before.before.before.before.before.before.before.before.before.before.before.before) state.ensures rest.ensures c.before.before.before.before.before.if1.false c.before.before.if2.false
-    ∙ and-no-right (same (ty_at (of c.before.before.before.before.before.before.before.before.before.before.before.before).columns state.result.left) (buffer 5))
-    (isWord 6 (ty_at (of c.before.before.before.before.before.before.before.before.before.before.before.before).columns rest.result.left) && isWord 8 (ty_at (of c.before.before.before.before.before.before.before.before.before.before.before.before).columns rest.result.right))
-    (ap (λ (b : Bool). b && isWord 8 (ty_at (of c.before.before.before.before.before.before.before.before.before.before.before.before).columns rest.result.right))
+    (read_state (of c.before.before.before.before.before.before.before.before.before.before.before.before) state.ensures rest.ensures c.before.before.before.before.before.if1.false c.before.before.if2.false
+    ∙ and_no_right (same (ty_at (of c.before.before.before.before.before.before.before.before.before.before.before.before).columns state.result.left) (buffer 5))
+    (is_word 6 (ty_at (of c.before.before.before.before.before.before.before.before.before.before.before.before).columns rest.result.left) && is_word 8 (ty_at (of c.before.before.before.before.before.before.before.before.before.before.before.before).columns rest.result.right))
+    (ap (λ (b : Bool). b && is_word 8 (ty_at (of c.before.before.before.before.before.before.before.before.before.before.before.before).columns rest.result.right))
     (sym c.before.is_IsWord.ensures ∙ not-true c.before.is_IsWord.result c.if3.true)))
 
 is-word-requires-2 : tie.Need-is-word-requires-2
-is-word-requires-2 c κs = (c.before.before.before.before.before.before.before.before.before.before.before.before.requires.0, c.before.before.before.before.node-at2.ensures.right-in)
+is-word-requires-2 c κs = (c.before.before.before.before.before.before.before.before.before.before.before.before.requires.0, c.before.before.before.before.node-at2.ensures.right_in)
 
 returns-4 : tie.Need-returns-4
 returns-4 c =
     let state = c.before.before.before.before.before.before.before.before.before.Node-at in
     let rest = c.before.before.before.before.before.before.node-at2 in
     sym
-    (read-state (of c.before.before.before.before.before.before.before.before.before.before.before.before.before.before) state.ensures rest.ensures c.before.before.before.before.before.before.before.if1.false c.before.before.before.before.if2.false
-    ∙ and-no-right (same (ty_at (of c.before.before.before.before.before.before.before.before.before.before.before.before.before.before).columns state.result.left) (buffer 5))
-    (isWord 6 (ty_at (of c.before.before.before.before.before.before.before.before.before.before.before.before.before.before).columns rest.result.left) && isWord 8 (ty_at (of c.before.before.before.before.before.before.before.before.before.before.before.before.before.before).columns rest.result.right))
-    (and-no-right (isWord 6 (ty_at (of c.before.before.before.before.before.before.before.before.before.before.before.before.before.before).columns rest.result.left)) (isWord 8 (ty_at (of c.before.before.before.before.before.before.before.before.before.before.before.before.before.before).columns rest.result.right))
+    (read_state (of c.before.before.before.before.before.before.before.before.before.before.before.before.before.before) state.ensures rest.ensures c.before.before.before.before.before.before.before.if1.false c.before.before.before.before.if2.false
+    ∙ and_no_right (same (ty_at (of c.before.before.before.before.before.before.before.before.before.before.before.before.before.before).columns state.result.left) (buffer 5))
+    (is_word 6 (ty_at (of c.before.before.before.before.before.before.before.before.before.before.before.before.before.before).columns rest.result.left) && is_word 8 (ty_at (of c.before.before.before.before.before.before.before.before.before.before.before.before.before.before).columns rest.result.right))
+    (and_no_right (is_word 6 (ty_at (of c.before.before.before.before.before.before.before.before.before.before.before.before.before.before).columns rest.result.left)) (is_word 8 (ty_at (of c.before.before.before.before.before.before.before.before.before.before.before.before.before.before).columns rest.result.right))
     (sym c.before.is-word2.ensures ∙ not-true c.before.is-word2.result c.if4.true)))
 
 is-buffer-requires : tie.Need-is-buffer-requires
@@ -72,10 +72,10 @@ returns-5 c =
     c.is-buffer.ensures
     ∙ whole (same (ty_at (of c.before.before.before.before.before.before.before.before.before.before.before.before.before.before.before).columns c.before.before.before.before.before.before.before.before.before.before.Node-at.result.left) (buffer 5))
     ∙ ap₂ (λ (p q : Bool). same (ty_at (of c.before.before.before.before.before.before.before.before.before.before.before.before.before.before.before).columns c.before.before.before.before.before.before.before.before.before.before.Node-at.result.left) (buffer 5) && (p && q)) (sym six) (sym eight)
-    ∙ sym (read-state (of c.before.before.before.before.before.before.before.before.before.before.before.before.before.before.before) c.before.before.before.before.before.before.before.before.before.before.Node-at.ensures c.before.before.before.before.before.before.before.node-at2.ensures c.before.before.before.before.before.before.before.before.if1.false c.before.before.before.before.before.if2.false)
+    ∙ sym (read_state (of c.before.before.before.before.before.before.before.before.before.before.before.before.before.before.before) c.before.before.before.before.before.before.before.before.before.before.Node-at.ensures c.before.before.before.before.before.before.before.node-at2.ensures c.before.before.before.before.before.before.before.before.if1.false c.before.before.before.before.before.if2.false)
 
-pub is-ctx8-spec : {M : Type 1} → statement M
-is-ctx8-spec =
+pub is_ctx8_spec : {M : Type 1} → statement M
+is_ctx8_spec =
     tie.close
     (tie.spec
     node-at-requires

@@ -4,16 +4,16 @@ use mathlib.Core.Path.{◌≡◌, refl, sym, ap, ◌∙◌}
 use native.Mathlib.Omega.{arith}
 use borrow.Author.Rules.{rules}
 use Rattle.meaning.specs.Tables.{Table, table, columns, ty_at}
-use Rattle.meaning.specs.Words.{isWord, two}
-use Rattle.meaning.proofs.Trees.{tree-class, class-trees}
-use Rattle.meaning.proofs.Types.{same-comm}
-use Rattle.shapes.proofs.Shapes.{read-no-word, read-square, read-uneven}
+use Rattle.meaning.specs.Words.{is_word, two}
+use Rattle.meaning.proofs.Trees.{tree_class, class_trees}
+use Rattle.meaning.proofs.Types.{same_comm}
+use Rattle.shapes.proofs.Shapes.{read_no_word, read_square, read_uneven}
 use Rattle.shapes.proofs.is_word.Statement.{statement}
 use Rattle.shapes.proofs.is_word.Tie as tie
 
 abbrev invariant-loop : tie.invariant-loop
 invariant-loop kinds lefts rights groups count node n at₀ below₀ at below =
-    (at < count) × (isWord n (ty_at (columns kinds lefts rights) node) ≡ isWord below (ty_at (columns kinds lefts rights) at))
+    (at < count) × (is_word n (ty_at (columns kinds lefts rights) node) ≡ is_word below (ty_at (columns kinds lefts rights) at))
 
 abbrev decreases-loop : tie.decreases-loop
 decreases-loop kinds lefts rights groups count node n at₀ below₀ at below = below
@@ -32,13 +32,13 @@ node-at-requires c κs = (c.before.before.before.before.before.before.requires.0
 returns : tie.Need-returns invariant-loop decreases-loop
 returns c =
     let l = c.before.before.before.before.loop in
-    sym (l.invariant.1 ∙ read-no-word (of c.before.before.before.before.before.before.before.before.before) c.before.before.Node-at.ensures l.below c.before.before.before.loop-test.true c.if1.true)
+    sym (l.invariant.1 ∙ read_no_word (of c.before.before.before.before.before.before.before.before.before) c.before.before.Node-at.ensures l.below c.before.before.before.loop-test.true c.if1.true)
 
 node-at-requires-2 : tie.Need-node-at-requires-2 invariant-loop decreases-loop
 node-at-requires-2 c κs = (c.before.before.before.before.before.before.before.before.before.requires.0, c.before.before.Node-at.ensures.left_in)
 
 node-at-requires-3 : tie.Need-node-at-requires-3 invariant-loop decreases-loop
-node-at-requires-3 c κs = (c.before.before.before.before.before.before.before.before.before.before.requires.0, c.before.before.before.Node-at.ensures.right-in)
+node-at-requires-3 c κs = (c.before.before.before.before.before.before.before.before.before.before.requires.0, c.before.before.before.Node-at.ensures.right_in)
 
 returns-2 : tie.Need-returns-2 invariant-loop decreases-loop
 returns-2 c =
@@ -46,12 +46,12 @@ returns-2 c =
     let r = c.before.before.before.before.before.before.before.Node-at in
     sym
     (l.invariant.1
-    ∙ read-uneven (of c.before.before.before.before.before.before.before.before.before.before.before.before.before.before) r.ensures l.below c.before.before.before.before.before.before.before.before.loop-test.true c.before.before.before.before.before.if1.false
+    ∙ read_uneven (of c.before.before.before.before.before.before.before.before.before.before.before.before.before.before) r.ensures l.below c.before.before.before.before.before.before.before.before.loop-test.true c.before.before.before.before.before.if1.false
     (λ e.
     c.if2.true
-    (c.before.before.before.before.node-at2.ensures.class-is
-    ∙ tree-class (of c.before.before.before.before.before.before.before.before.before.before.before.before.before.before).columns r.result.left r.result.right e
-    ∙ sym c.before.before.before.node-at3.ensures.class-is)))
+    (c.before.before.before.before.node-at2.ensures.class_is
+    ∙ tree_class (of c.before.before.before.before.before.before.before.before.before.before.before.before.before.before).columns r.result.left r.result.right e
+    ∙ sym c.before.before.before.node-at3.ensures.class_is)))
 
 sub-below : tie.Need-overflow-sub-below invariant-loop decreases-loop
 sub-below c = search rules
@@ -65,26 +65,26 @@ loop-again c =
     let r = c.before.before.before.before.before.before.before.Node-at in (
       r.ensures.left_in,
       l.invariant.1
-          ∙ read-square (of c.before.before.before.before.before.before.before.before.before.before.before.before.before.before) r.ensures l.below c.before.before.before.before.before.before.before.before.loop-test.true c.before.before.before.before.before.if1.false
-          (class-trees (of c.before.before.before.before.before.before.before.before.before.before.before.before.before.before).columns r.result.left r.result.right
-          (sym c.before.before.before.before.node-at2.ensures.class-is ∙ c.if2.false ∙ c.before.before.before.node-at3.ensures.class-is)),
+          ∙ read_square (of c.before.before.before.before.before.before.before.before.before.before.before.before.before.before) r.ensures l.below c.before.before.before.before.before.before.before.before.loop-test.true c.before.before.before.before.before.if1.false
+          (class_trees (of c.before.before.before.before.before.before.before.before.before.before.before.before.before.before).columns r.result.left r.result.right
+          (sym c.before.before.before.before.node-at2.ensures.class_is ∙ c.if2.false ∙ c.before.before.before.node-at3.ensures.class_is)),
     )
 
 is-two-requires : tie.Need-is-two-requires invariant-loop decreases-loop
 is-two-requires c κs = (c.before.before.before.before.before.before.requires.0, c.before.loop.invariant.0)
 
 returns-3 : tie.Need-returns-3 invariant-loop decreases-loop
-unfolding isWord
+unfolding is_word
 returns-3 c =
     let l = c.before.before.loop in
     let end : l.below ≡ 0 = omega arith in
     c.is-two.ensures
-    ∙ same-comm (ty_at (of c.before.before.before.before.before.before.before).columns l.at) two
-    ∙ ap (λ (m : ℕ). isWord m (ty_at (of c.before.before.before.before.before.before.before).columns l.at)) (sym end)
+    ∙ same_comm (ty_at (of c.before.before.before.before.before.before.before).columns l.at) two
+    ∙ ap (λ (m : ℕ). is_word m (ty_at (of c.before.before.before.before.before.before.before).columns l.at)) (sym end)
     ∙ sym l.invariant.1
 
-pub is-word-spec : {M : Type 1} → statement M
-is-word-spec =
+pub is_word_spec : {M : Type 1} → statement M
+is_word_spec =
     tie.close
     (tie.spec
     invariant-loop

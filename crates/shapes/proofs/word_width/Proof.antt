@@ -1,7 +1,7 @@
 -- `shapes::word_width` meets its contract: the array holds the list's own numbers. Assumes nothing.
 use mathlib.Core.Path.{refl}
 use borrow.Author.Rules.{rules}
-use Rattle.meaning.specs.Words.{wordWidths}
+use Rattle.meaning.specs.Words.{word_widths}
 use Rattle.shapes.proofs.word_width.Statement.{statement}
 use Rattle.shapes.proofs.word_width.Tie as tie
 
@@ -12,8 +12,8 @@ array-read-result : tie.Need-array-read-result
 array-read-result c = search rules
 
 returns : tie.Need-returns
-unfolding wordWidths
+unfolding word_widths
 returns c = refl
 
-pub word-width-spec : {M : Type 1} → statement M
-word-width-spec = tie.close (tie.spec mul-result array-read-result returns)
+pub word_width_spec : {M : Type 1} → statement M
+word_width_spec = tie.close (tie.spec mul-result array-read-result returns)

@@ -5,9 +5,9 @@ use mathlib.Core.Path.{◌≡◌, sym, ◌∙◌, ap}
 use mathlib.Core.List.{List}
 use Rattle.meaning.specs.Tables.{Columns, columns}
 use Rattle.meaning.specs.Ladder.{accepted}
-use Rattle.meaning.specs.TypeCalls.{fillFactsCall}
+use Rattle.meaning.specs.TypeCalls.{fill_facts_call}
 use Rattle.answers.specs.Verdicts.{done_of}
-use Rattle.table_filling.proofs.Fillings.{fillable, fill-refused, fill-accepted}
+use Rattle.table_filling.proofs.Fillings.{fillable, fill_refused, fill_accepted}
 use Rattle.table.proofs.fill_facts.Statement.{statement}
 use Rattle.table.proofs.fill_facts.Tie as tie
 
@@ -22,7 +22,7 @@ told c = c.args.groups.now
 abbrev entry : tie.After-enum-told → tie.Start
 entry c = c.before.before.before.before.before.before.before.before
 
-passed : (c : tie.After-enum-told) → accepted (tt {0}) ≡ fillFactsCall (entries (entry c)) (entry c).args.count (told (entry c))
+passed : (c : tie.After-enum-told) → accepted (tt {0}) ≡ fill_facts_call (entries (entry c)) (entry c).args.count (told (entry c))
 passed c = sym (ap done_of c.enum_told.given.1) ∙ c.before.before.may-fill.ensures
 
 may-fill-requires : tie.Need-may-fill-requires
@@ -38,13 +38,13 @@ returns : tie.Need-returns
 returns c =
     let s = c.before.before.before.before.before.before.before.before.before in
     let r = c.before.judged.given in
-    fill-refused (entries s) s.args.count (told s) r.0.0.number r.0.0.place (sym (ap done_of r.1) ∙ c.before.before.before.may-fill.ensures)
+    fill_refused (entries s) s.args.count (told s) r.0.0.number r.0.0.place (sym (ap done_of r.1) ∙ c.before.before.before.may-fill.ensures)
 
 enum_told : tie.Need-enum-told
 enum_told c = search rules
 
 fill-requires : tie.Need-fill-requires
-fill-requires c κs = let s = entry c.before in (fillable (entries s) s.args.count (told s) (passed c.before)).can-fill
+fill-requires c κs = let s = entry c.before in (fillable (entries s) s.args.count (told s) (passed c.before)).can_fill
 
 same-length-2 : tie.Need-same-length-2
 same-length-2 c = search rules
@@ -54,8 +54,8 @@ returns-2 c =
     let w = c.before.before.fill in
     let e = c.before.before.before.before in
     let s = entry e in
-    fill-accepted (entries s) s.args.count (told s) w.new.1.1.1.1.0 (passed e) w.ensures
+    fill_accepted (entries s) s.args.count (told s) w.new.1.1.1.1.0 (passed e) w.ensures
 
-pub fill-facts-spec : {M : Type 1} → statement M
-fill-facts-spec =
+pub fill_facts_spec : {M : Type 1} → statement M
+fill_facts_spec =
     tie.close (tie.spec may-fill-requires enum-known-judged same_length returns enum_told fill-requires same-length-2 returns-2)

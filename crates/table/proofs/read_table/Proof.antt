@@ -6,9 +6,9 @@ use mathlib.Core.Path.{◌≡◌, sym, ◌∙◌, ap}
 use mathlib.Core.List.{List}
 use Rattle.meaning.specs.Tables.{Columns, columns}
 use Rattle.meaning.specs.Ladder.{accepted}
-use Rattle.meaning.specs.TypeCalls.{readTableCall}
+use Rattle.meaning.specs.TypeCalls.{read_table_call}
 use Rattle.answers.specs.Verdicts.{count_of}
-use Rattle.table_reading.proofs.Readings.{read_kept, read-written}
+use Rattle.table_reading.proofs.Readings.{read_kept, read_written}
 use Rattle.table.proofs.read_table.Statement.{statement}
 use Rattle.table.proofs.read_table.Tie as tie
 
@@ -29,7 +29,7 @@ entry c = c.before.before.before.before.before.before.before.before.before.befor
 abbrev counted : tie.After-known-told → ℕ
 counted c = c.before.judged.given.0.0
 
-passed : (c : tie.After-known-told) → accepted (counted c) ≡ readTableCall (file (entry c)) (entries (entry c)) (told (entry c))
+passed : (c : tie.After-known-told) → accepted (counted c) ≡ read_table_call (file (entry c)) (entries (entry c)) (told (entry c))
 passed c = sym (ap count_of c.before.judged.given.1) ∙ c.before.before.before.may_read_lem.ensures
 
 may-read-requires : tie.Need-may-read-requires
@@ -82,10 +82,10 @@ returns-2 c =
     let s = entry k in
     let d = w.write-table.new.1 in
     let e = w.write-table.ensures in
-    read-written (file s) (entries s) (told s) (counted k) (columns d.0 d.1.0 d.1.1.0) d.1.1.1.0 (passed k) e.0 e.1
+    read_written (file s) (entries s) (told s) (counted k) (columns d.0 d.1.0 d.1.1.0) d.1.1.1.0 (passed k) e.0 e.1
 
-pub read-table-spec : {M : Type 1} → statement M
-read-table-spec =
+pub read_table_spec : {M : Type 1} → statement M
+read_table_spec =
     tie.close
     (tie.spec
     may-read-requires

@@ -6,9 +6,9 @@ use mathlib.Core.Bool.{true}
 use mathlib.Core.List.{List}
 use Prim.Native.Nat.{ℕ}
 use native.Mathlib.Omega.{arith}
-use Rattle.meaning.specs.Tables.{Columns, columns, columnsReach}
-use Rattle.table_room.proofs.Room.{columns-reached}
-use Rattle.table_filling.proofs.Fillings.{too_few, too_many, short-column, faulty-entry, short-groups, all_right}
+use Rattle.meaning.specs.Tables.{Columns, columns, columns_reach}
+use Rattle.table_room.proofs.Room.{columns_reached}
+use Rattle.table_filling.proofs.Fillings.{too_few, too_many, short_column, faulty_entry, short_groups, all_right}
 use Rattle.table_filling.proofs.may_fill.Statement.{statement}
 use Rattle.table_filling.proofs.may_fill.Tie as tie
 
@@ -23,7 +23,7 @@ told c = c.args.groups.now
 abbrev entry : tie.Else3 → tie.Start
 entry c = c.before.before.before.before.before.before.before.before
 
-reached : (c : tie.Else3) → columnsReach (entries (entry c)) (entry c).args.count ≡ true
+reached : (c : tie.Else3) → columns_reach (entries (entry c)) (entry c).args.count ≡ true
 reached c = sym c.before.columns-reach.ensures ∙ not-false c.before.columns-reach.result c.if3.false
 
 returns : tie.Need-returns
@@ -39,17 +39,17 @@ returns-3 : tie.Need-returns-3
 returns-3 c =
     let s = c.before.before.before.before.before.before.before.before in
     let r = c.before.columns-reach in
-    short-column (entries s) s.args.count (told s) (sym r.ensures ∙ not-true r.result c.if3.true)
+    short_column (entries s) s.args.count (told s) (sym r.ensures ∙ not-true r.result c.if3.true)
 
 first-bad-entry-requires : tie.Need-first-bad-entry-requires
-first-bad-entry-requires c κs = let s = entry c in columns-reached (entries s) s.args.count (reached c)
+first-bad-entry-requires c κs = let s = entry c in columns_reached (entries s) s.args.count (reached c)
 
 returns-4 : tie.Need-returns-4
 returns-4 c =
     let e = c.before.before in
     let s = entry e in
     let b = c.before.first-bad-entry in
-    faulty-entry (entries s) s.args.count (told s) e.before.before.before.if1.false e.before.before.if2.false (reached e) b.result b.ensures c.if4.true
+    faulty_entry (entries s) s.args.count (told s) e.before.before.before.if1.false e.before.before.if2.false (reached e) b.result b.ensures c.if4.true
 
 groups-reach-requires : tie.Need-groups-reach-requires
 groups-reach-requires c κs = let e = c.before.before in e.before.before.if2.false
@@ -60,7 +60,7 @@ returns-5 c =
     let s = entry e in
     let b = c.before.before.before.first-bad-entry in
     let r = c.before.groups-reach in
-    short-groups (entries s) s.args.count (told s) e.before.before.before.if1.false e.before.before.if2.false (reached e) b.result b.ensures c.before.before.if4.false
+    short_groups (entries s) s.args.count (told s) e.before.before.before.if1.false e.before.before.if2.false (reached e) b.result b.ensures c.before.before.if4.false
     (sym r.ensures ∙ not-true r.result c.if5.true)
 
 returns-6 : tie.Need-returns-6
@@ -72,8 +72,8 @@ returns-6 c =
     all_right (entries s) s.args.count (told s) e.before.before.before.if1.false e.before.before.if2.false (reached e) b.result b.ensures c.before.before.if4.false
     (sym r.ensures ∙ not-false r.result c.if5.false)
 
-pub may-fill-spec : {M : Type 1} → statement M
-may-fill-spec =
+pub may_fill_spec : {M : Type 1} → statement M
+may_fill_spec =
     tie.close
     (tie.spec
     returns

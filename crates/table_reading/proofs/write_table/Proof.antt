@@ -3,7 +3,7 @@ use borrow.Author.Rules.{rules}
 use Prim.Native.Nat.{ℕ}
 use mathlib.Core.List.{List}
 use Rattle.meaning.specs.Tables.{Columns, columns}
-use Rattle.table_reading.proofs.Readings.{readable, fillable-after}
+use Rattle.table_reading.proofs.Readings.{readable, fillable_after}
 use Rattle.table_reading.proofs.write_table.Statement.{statement}
 use Rattle.table_reading.proofs.write_table.Tie as tie
 
@@ -31,7 +31,7 @@ fill-requires c κs =
     let w = c.before.before.before.before.before.before.before.before.before.before in
     let s = entry w in
     let d = w.write-columns.new.1 in
-    fillable-after (file s) (entries s) (told s) s.args.count s.pre (columns d.0 d.1.0 d.1.1.0) w.write-columns.ensures
+    fillable_after (file s) (entries s) (told s) s.args.count s.pre (columns d.0 d.1.0 d.1.1.0) w.write-columns.ensures
 
 same_length : tie.Need-same-length
 same_length c = search rules
@@ -51,8 +51,8 @@ returns c =
     let w = v.before.before.before.before.before.before.before.before.before.before.before in
     (w.write-columns.ensures, v.fill.ensures)
 
-pub write-table-spec : {M : Type 1} → statement M
-write-table-spec =
+pub write_table_spec : {M : Type 1} → statement M
+write_table_spec =
     tie.close
     (tie.spec
     write-columns-requires

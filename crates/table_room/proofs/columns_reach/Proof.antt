@@ -17,5 +17,5 @@ returns-3 c =
     let a = c.before.before.args in
     rw (le-leb a.count (length a.kinds.now) c.before.if1.false, le-leb a.count (length a.lefts.now) c.if2.false)
 
-pub columns-reach-spec : {M : Type 1} → statement M
-columns-reach-spec = tie.close (tie.spec returns returns-2 returns-3)
+pub columns_reach_spec : {M : Type 1} → statement M
+columns_reach_spec = tie.close (tie.spec returns returns-2 returns-3)

@@ -1,13 +1,13 @@
 -- `types::as_product` meets its contract: a product is a node of kind 2. Assumes nothing.
 use borrow.Author.Rules.{rules}
 use mathlib.Core.Path.{◌≡◌, sym, ◌∙◌, ap}
-use Rattle.meaning.specs.Types.{isProd}
+use Rattle.meaning.specs.Types.{is_prod}
 use Rattle.meaning.specs.Tables.{Table, table}
 use Rattle.meaning.specs.Ladder.{type_at, shaped}
-use Rattle.meaning.specs.TypeCalls.{sidesAt}
+use Rattle.meaning.specs.TypeCalls.{sides_at}
 use Rattle.answers.specs.Verdicts.{facts_of}
-use Rattle.checked.proofs.Told.{told-stop}
-use Rattle.types.proofs.Types.{product-told}
+use Rattle.checked.proofs.Told.{told_stop}
+use Rattle.types.proofs.Types.{product_told}
 use Rattle.types.proofs.as_product.Statement.{statement}
 use Rattle.types.proofs.as_product.Tie as tie
 
@@ -32,15 +32,15 @@ returns : tie.Need-returns
 returns c =
     let s = c.before.before.before.before.before.before.before.before in
     let r = c.before.r.given in
-    told-stop (of s) s.args.node (shaped (isProd (type_at (of s) s.args.node))) (sidesAt (of s) s.args.node) r.0.0.number r.0.0.place
+    told_stop (of s) s.args.node (shaped (is_prod (type_at (of s) s.args.node))) (sides_at (of s) s.args.node) r.0.0.number r.0.0.place
     (sym (ap facts_of r.1) ∙ c.before.before.before.facts-of.ensures)
 
 returns-2 : tie.Need-returns-2
 returns-2 c =
     let s = c.before.before.before.before.before.before.before.before.before in
-    c.sides-if.ensures ∙ product-told (of s) s.args.node (sym (ap facts_of c.before.before.f.given.1) ∙ c.before.before.before.before.facts-of.ensures)
+    c.sides-if.ensures ∙ product_told (of s) s.args.node (sym (ap facts_of c.before.before.f.given.1) ∙ c.before.before.before.before.facts-of.ensures)
 
-pub as-product-spec : {M : Type 1} → statement M
-as-product-spec =
+pub as_product_spec : {M : Type 1} → statement M
+as_product_spec =
     tie.close
     (tie.spec facts-of-requires enum-known-r enum-known-f sides-if-requires returns returns-2)

@@ -2,11 +2,11 @@
 use borrow.Author.Rules.{rules}
 use mathlib.Core.Path.{◌≡◌, sym, ◌∙◌, ap}
 use mathlib.Core.List.{[], ◌∷◌}
-use Rattle.meaning.specs.Tables.{Table, table, factsAt}
+use Rattle.meaning.specs.Tables.{Table, table, facts_at}
 use Rattle.meaning.specs.Ladder.{accepted}
-use Rattle.answers.specs.Verdicts.{done_of, nodeFacts}
-use Rattle.checked.proofs.Passed.{asked-passed}
-use Rattle.checked_present.proofs.Asking.{judged, asks-stop, answered}
+use Rattle.answers.specs.Verdicts.{done_of, node_facts}
+use Rattle.checked.proofs.Passed.{asked_passed}
+use Rattle.checked_present.proofs.Asking.{judged, asks_stop, answered}
 use Rattle.types.proofs.facts_of.Statement.{statement}
 use Rattle.types.proofs.facts_of.Tie as tie
 
@@ -32,19 +32,19 @@ returns : tie.Need-returns
 returns c =
     let s = c.before.before.before.before.before.before.before.before in
     let r = c.before.judged.given in
-    asks-stop (of s) (s.args.node ∷ []) [] (factsAt (of s).columns s.args.node) r.0.0.number r.0.0.place
+    asks_stop (of s) (s.args.node ∷ []) [] (facts_at (of s).columns s.args.node) r.0.0.number r.0.0.place
     (sym (ap done_of r.1) ∙ c.before.before.before.one.ensures)
 
 enum_told : tie.Need-enum-told
 enum_told c = search rules
 
 facts-requires : tie.Need-facts-requires
-facts-requires c κs = (asked-passed (of (entry c)) ((entry c).args.node ∷ []) (sym (passed c))).1.0
+facts-requires c κs = (asked_passed (of (entry c)) ((entry c).args.node ∷ []) (sym (passed c))).1.0
 
 returns-2 : tie.Need-returns-2
 returns-2 c =
     let s = entry c.before in
-    answered (of s) (s.args.node ∷ []) (factsAt (of s).columns s.args.node) (nodeFacts c.facts.result) (passed c.before) c.facts.ensures
+    answered (of s) (s.args.node ∷ []) (facts_at (of s).columns s.args.node) (node_facts c.facts.result) (passed c.before) c.facts.ensures
 
-pub facts-of-spec : {M : Type 1} → statement M
-facts-of-spec = tie.close (tie.spec one-requires enum-known-judged returns enum_told facts-requires returns-2)
+pub facts_of_spec : {M : Type 1} → statement M
+facts_of_spec = tie.close (tie.spec one-requires enum-known-judged returns enum_told facts-requires returns-2)

@@ -7,8 +7,8 @@ use Rattle.meaning.specs.Types.{width}
 use Rattle.meaning.specs.Tables.{Table, table}
 use Rattle.meaning.specs.Ladder.{type_at}
 use Rattle.answers.specs.Verdicts.{facts_of}
-use Rattle.checked.proofs.Told.{told-stop}
-use Rattle.types.proofs.Types.{empty-told}
+use Rattle.checked.proofs.Told.{told_stop}
+use Rattle.types.proofs.Types.{empty_told}
 use Rattle.types.proofs.is_empty.Statement.{statement}
 use Rattle.types.proofs.is_empty.Tie as tie
 
@@ -30,13 +30,13 @@ returns : tie.Need-returns
 returns c =
     let s = c.before.before.before.before.before.before.before.before in
     let r = c.before.r.given in
-    told-stop (of s) s.args.node [] (eqb (width (type_at (of s) s.args.node)) 0) r.0.0.number r.0.0.place
+    told_stop (of s) s.args.node [] (eqb (width (type_at (of s) s.args.node)) 0) r.0.0.number r.0.0.place
     (sym (ap facts_of r.1) ∙ c.before.before.before.facts-of.ensures)
 
 returns-2 : tie.Need-returns-2
 returns-2 c =
     let s = c.before.before.before.before.before.before.before.before.before in
-    empty-told (of s) s.args.node (sym (ap facts_of c.before.before.f.given.1) ∙ c.before.before.before.before.facts-of.ensures)
+    empty_told (of s) s.args.node (sym (ap facts_of c.before.before.f.given.1) ∙ c.before.before.before.before.facts-of.ensures)
 
 pub is_empty_spec : {M : Type 1} → statement M
 is_empty_spec =

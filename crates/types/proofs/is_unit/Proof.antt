@@ -6,8 +6,8 @@ use Rattle.meaning.specs.Types.{is_unit}
 use Rattle.meaning.specs.Tables.{Table, table}
 use Rattle.meaning.specs.Ladder.{type_at}
 use Rattle.answers.specs.Verdicts.{facts_of}
-use Rattle.checked.proofs.Told.{told-stop}
-use Rattle.types.proofs.Types.{unit-told}
+use Rattle.checked.proofs.Told.{told_stop}
+use Rattle.types.proofs.Types.{unit_told}
 use Rattle.types.proofs.is_unit.Statement.{statement}
 use Rattle.types.proofs.is_unit.Tie as tie
 
@@ -29,15 +29,15 @@ returns : tie.Need-returns
 returns c =
     let s = c.before.before.before.before.before.before.before.before in
     let r = c.before.r.given in
-    told-stop (of s) s.args.node [] (is_unit (type_at (of s) s.args.node)) r.0.0.number r.0.0.place
+    told_stop (of s) s.args.node [] (is_unit (type_at (of s) s.args.node)) r.0.0.number r.0.0.place
     (sym (ap facts_of r.1) ∙ c.before.before.before.facts-of.ensures)
 
 returns-2 : tie.Need-returns-2
 returns-2 c =
     let s = c.before.before.before.before.before.before.before.before.before in
-    unit-told (of s) s.args.node (sym (ap facts_of c.before.before.f.given.1) ∙ c.before.before.before.before.facts-of.ensures)
+    unit_told (of s) s.args.node (sym (ap facts_of c.before.before.f.given.1) ∙ c.before.before.before.before.facts-of.ensures)
 
-pub is-unit-spec : {M : Type 1} → statement M
-is-unit-spec =
+pub is_unit_spec : {M : Type 1} → statement M
+is_unit_spec =
     tie.close
     (tie.spec facts-of-requires enum-known-r enum-known-f returns returns-2)

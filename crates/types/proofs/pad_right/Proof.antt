@@ -2,7 +2,7 @@
 use borrow.Author.Rules.{rules}
 use mathlib.Core.Path.{◌∙◌}
 use Rattle.meaning.specs.Tables.{Table, table}
-use Rattle.types.proofs.Types.{padding-swapped}
+use Rattle.types.proofs.Types.{padding_swapped}
 use Rattle.types.proofs.pad_right.Statement.{statement}
 use Rattle.types.proofs.pad_right.Tie as tie
 
@@ -15,7 +15,7 @@ pad-left-requires : tie.Need-pad-left-requires
 pad-left-requires c κs = search rules
 
 returns : tie.Need-returns
-returns c = let s = c.before.before.before.before.before in c.pad-left.ensures ∙ padding-swapped (of s) s.args.a s.args.b
+returns c = let s = c.before.before.before.before.before in c.pad-left.ensures ∙ padding_swapped (of s) s.args.a s.args.b
 
-pub pad-right-spec : {M : Type 1} → statement M
-pad-right-spec = tie.close (tie.spec pad-left-requires returns)
+pub pad_right_spec : {M : Type 1} → statement M
+pad_right_spec = tie.close (tie.spec pad-left-requires returns)

@@ -7,8 +7,8 @@ use Rattle.meaning.specs.Tables.{Table, table}
 use Rattle.meaning.specs.Ladder.{accepted, type_at}
 use Rattle.answers.specs.Verdicts.{done_of}
 use Rattle.checked.specs.Passed.{All, Present}
-use Rattle.checked.proofs.Passed.{asked-passed}
-use Rattle.checked_present.proofs.Asking.{judged, asks-stop, answered}
+use Rattle.checked.proofs.Passed.{asked_passed}
+use Rattle.checked_present.proofs.Asking.{judged, asks_stop, answered}
 use Rattle.types.proofs.same_type.Statement.{statement}
 use Rattle.types.proofs.same_type.Tie as tie
 
@@ -25,7 +25,7 @@ passed : (c : tie.After-enum-told) → accepted (tt {0}) ≡ judged (of (entry c
 passed c = sym (ap done_of c.enum_told.given.1) ∙ c.before.before.two.ensures
 
 known : (c : tie.After-enum-told) → All (Present (of (entry c))) ((entry c).args.a ∷ (entry c).args.b ∷ [])
-known c = (asked-passed (of (entry c)) ((entry c).args.a ∷ (entry c).args.b ∷ []) (sym (passed c))).1
+known c = (asked_passed (of (entry c)) ((entry c).args.a ∷ (entry c).args.b ∷ []) (sym (passed c))).1
 
 two-requires : tie.Need-two-requires
 two-requires c κs = search rules
@@ -37,7 +37,7 @@ returns : tie.Need-returns
 returns c =
     let s = c.before.before.before.before.before.before.before.before in
     let r = c.before.judged.given in
-    asks-stop (of s) (s.args.a ∷ s.args.b ∷ []) [] (same (type_at (of s) s.args.a) (type_at (of s) s.args.b))
+    asks_stop (of s) (s.args.a ∷ s.args.b ∷ []) [] (same (type_at (of s) s.args.a) (type_at (of s) s.args.b))
     r.0.0.number r.0.0.place (sym (ap done_of r.1) ∙ c.before.before.before.two.ensures)
 
 enum_told : tie.Need-enum-told
@@ -53,8 +53,8 @@ returns-2 c =
     answered (of s) (s.args.a ∷ s.args.b ∷ []) (same (type_at (of s) s.args.a) (type_at (of s) s.args.b)) c.same-type.result (passed e)
     c.same-type.ensures
 
-pub same-type-spec : {M : Type 1} → statement M
-same-type-spec =
+pub same_type_spec : {M : Type 1} → statement M
+same_type_spec =
     tie.close
     (tie.spec
     two-requires

@@ -6,10 +6,10 @@ use native.Mathlib.Nat.{lt_of_lt_of_le}
 use native.Mathlib.Omega.{arith}
 use lib.Dec.{lit≤}
 use lib.ListN.{length}
-use Rattle.meaning.specs.Groups.{groupSize}
+use Rattle.meaning.specs.Groups.{group_size}
 use Rattle.meaning.specs.Tables.{Table, table}
-use Rattle.meaning.proofs.GroupLaws.{sound-group}
-use Rattle.types_reading.proofs.Read.{place-fits, told-read, facts-read}
+use Rattle.meaning.proofs.GroupLaws.{sound_group}
+use Rattle.types_reading.proofs.Read.{place_fits, told_read, facts_read}
 use Rattle.types_reading.proofs.facts.Statement.{statement}
 use Rattle.types_reading.proofs.facts.Tie as tie
 
@@ -23,9 +23,9 @@ abbrev entry : tie.After-shared-slice-known4 → tie.Start
 entry c = c.before.before.before.before
 
 -- The node has its group.
-grouped : (c : tie.Start) → groupSize * (c.args.node + 1) ≤ length c.args.groups.now
+grouped : (c : tie.Start) → group_size * (c.args.node + 1) ≤ length c.args.groups.now
 grouped c =
-    let a = c.args in sound-group a.kinds.now a.lefts.now a.rights.now a.groups.now a.count a.node c.requires.sound c.requires.here
+    let a = c.args in sound_group a.kinds.now a.lefts.now a.rights.now a.groups.now a.count a.node c.requires.sound c.requires.here
 
 width-at-requires : tie.Need-width-at-requires
 width-at-requires c κs = grouped (entry c)
@@ -43,16 +43,16 @@ cast-t12 : tie.Need-overflow-cast-t12
 cast-t12 c = search rules
 
 shared-slice-read-t14 : tie.Need-shared-slice-read-t14
-shared-slice-read-t14 c = let s = entry c.before.before.before.before.before in lt_of_lt_of_le s.pre.here s.pre.sound.kinds-reach
+shared-slice-read-t14 c = let s = entry c.before.before.before.before.before in lt_of_lt_of_le s.pre.here s.pre.sound.kinds_reach
 
 mul-t15 : tie.Need-overflow-mul-t15
 mul-t15 c =
     let s = entry c.before.before.before.before.before in
-    place-fits (of s) s.pre.sound s.args.node s.pre.here 2 (lit≤ tt)
+    place_fits (of s) s.pre.sound s.args.node s.pre.here 2 (lit≤ tt)
 
 shared-slice-read-t17 : tie.Need-shared-slice-read-t17
 shared-slice-read-t17 c =
-    let s = entry c.before.before.before.before.before.before in lt_of_lt_of_le s.pre.here s.pre.sound.lefts-reach
+    let s = entry c.before.before.before.before.before.before in lt_of_lt_of_le s.pre.here s.pre.sound.lefts_reach
 
 cast-t18 : tie.Need-overflow-cast-t18
 cast-t18 c = let f = c.shared-slice-known6.given (entry c.before.before.before.before.before.before).args.node in record { fits = omega arith }
@@ -62,7 +62,7 @@ mul-t19 c = mul-t15 c.before
 
 shared-slice-read-t21 : tie.Need-shared-slice-read-t21
 shared-slice-read-t21 c =
-    let s = entry c.before.before.before.before.before.before.before in lt_of_lt_of_le s.pre.here s.pre.sound.rights-reach
+    let s = entry c.before.before.before.before.before.before.before in lt_of_lt_of_le s.pre.here s.pre.sound.rights_reach
 
 cast-t22 : tie.Need-overflow-cast-t22
 cast-t22 c = let f = c.shared-slice-known7.given (entry c.before.before.before.before.before.before.before).args.node in record { fits = omega arith }
@@ -77,11 +77,11 @@ returns c =
     let size = padded.before in
     let width = size.before in
     let s = entry width.before in
-    told-read (of s) s.args.node width.width-at.ensures size.size-at.ensures padded.padded-at.ensures class.class-at.ensures c.least_at.ensures
-    ∙ facts-read (of s) s.pre.sound s.args.node s.pre.here
+    told_read (of s) s.args.node width.width-at.ensures size.size-at.ensures padded.padded-at.ensures class.class-at.ensures c.least_at.ensures
+    ∙ facts_read (of s) s.pre.sound s.args.node s.pre.here
 
-pub facts-spec : {M : Type 1} → statement M
-facts-spec =
+pub facts_spec : {M : Type 1} → statement M
+facts_spec =
     tie.close
     (tie.spec
     width-at-requires

@@ -5,11 +5,11 @@ use native.Mathlib.Omega.{arith}
 use borrow.Author.Rules.{rules}
 use Rattle.meaning.specs.Types.{bits}
 use Rattle.meaning.specs.Tables.{Table, table}
-use Rattle.meaning.specs.Records.{sameBits}
-use Rattle.meaning.specs.Ladder.{Record, record_of, type_of, recordBits}
-use Rattle.meaning.proofs.Types.{eq-same}
-use Rattle.checked.proofs.Lent.{starts, lent-run, lent-bits}
-use Rattle.checked.proofs.Nodes.{own-width, same_class, other-class}
+use Rattle.meaning.specs.Records.{same_bits}
+use Rattle.meaning.specs.Ladder.{Record, record_of, type_of, record_bits}
+use Rattle.meaning.proofs.Types.{eq_same}
+use Rattle.checked.proofs.Lent.{starts, lent_run, lent_bits}
+use Rattle.checked.proofs.Nodes.{own_width, same_class, other_class}
 use Rattle.value_comparing.proofs.alike.Statement.{statement}
 use Rattle.value_comparing.proofs.alike.Tie as tie
 
@@ -38,8 +38,8 @@ returns : tie.Need-returns
 returns c =
     let n = c.before.before.before in
     let s = start n in
-    sym (ap (λ (x : Bool). x && sameBits (recordBits (of s) (one s)) (recordBits (of s) (other s)))
-    (other-class (of s) s.args.a-node s.args.b-node n.before.Node-at.result n.node-at2.result n.before.Node-at.ensures
+    sym (ap (λ (x : Bool). x && same_bits (record_bits (of s) (one s)) (record_bits (of s) (other s)))
+    (other_class (of s) s.args.a-node s.args.b-node n.before.Node-at.result n.node-at2.result n.before.Node-at.ensures
     n.node-at2.ensures
     c.if1.true))
 
@@ -59,7 +59,7 @@ width : (c : tie.Else1) → (read c).before.Node-at.result.width ≡ bits (type_
 width c =
     let n = read c in
     let s = start n in
-    own-width (of s) s.args.a-node n.before.Node-at.result n.before.Node-at.ensures s.pre.0.named
+    own_width (of s) s.args.a-node n.before.Node-at.result n.before.Node-at.ensures s.pre.0.named
 
 sub-same-bits : tie.Need-overflow-sub-same-bits
 sub-same-bits c = let s = start (read c) in omega (arith, starts (of s) (one s) s.pre.0)
@@ -84,7 +84,7 @@ same-bits-requires c κs =
     let b = c.before.before in
     let s = start (read b) in
     let w = (read b).before.Node-at.result.width in
-    (lent-run (of s) (one s) s.pre.0 w (width b), lent-run (of s) (other s) s.pre.1 w (width b ∙ ap bits (types b)))
+    (lent_run (of s) (one s) s.pre.0 w (width b), lent_run (of s) (other s) s.pre.1 w (width b ∙ ap bits (types b)))
 
 returns-2 : tie.Need-returns-2
 returns-2 c =
@@ -92,9 +92,9 @@ returns-2 c =
     let s = start (read b) in
     let w = (read b).before.Node-at.result.width in
     c.same_bits.ensures
-    ∙ ap₂ sameBits (lent-bits (of s) (one s) s.pre.0 w (width b)) (lent-bits (of s) (other s) s.pre.1 w (width b ∙ ap bits (types b)))
-    ∙ sym (ap (λ (x : Bool). x && sameBits (recordBits (of s) (one s)) (recordBits (of s) (other s)))
-    (eq-same (type_of (of s) (one s)) (type_of (of s) (other s)) (types b)))
+    ∙ ap₂ same_bits (lent_bits (of s) (one s) s.pre.0 w (width b)) (lent_bits (of s) (other s) s.pre.1 w (width b ∙ ap bits (types b)))
+    ∙ sym (ap (λ (x : Bool). x && same_bits (record_bits (of s) (one s)) (record_bits (of s) (other s)))
+    (eq_same (type_of (of s) (one s)) (type_of (of s) (other s)) (types b)))
 
 pub alike_spec : {M : Type 1} → statement M
 alike_spec =

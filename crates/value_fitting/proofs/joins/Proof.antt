@@ -3,10 +3,10 @@ use mathlib.Core.Path.{◌≡◌, refl, sym, ap, ap₂, ◌∙◌}
 use mathlib.Core.Bool.{Bool, true, false, ◌&&◌}
 use borrow.Author.Rules.{rules}
 use borrow.Author.Tests.{not-true, not-false}
-use Rattle.meaning.specs.Types.{Ty, prod, same, isProd, leftSide, rightSide}
+use Rattle.meaning.specs.Types.{Ty, prod, same, is_prod, left_side, right_side}
 use Rattle.meaning.specs.Tables.{Table, table}
 use Rattle.meaning.specs.Ladder.{type_at}
-use Rattle.checked.proofs.Nodes.{no-prod, prod-tree}
+use Rattle.checked.proofs.Nodes.{no_prod, prod_tree}
 use Rattle.value_fitting.proofs.joins.Statement.{statement}
 use Rattle.value_fitting.proofs.joins.Tie as tie
 
@@ -36,8 +36,8 @@ returns : tie.Need-returns
 returns c =
     let n = c.before.before in
     let s = start n in
-    sym (ap (λ (x : Bool). x && same (leftSide (whole s)) (first s) && same (rightSide (whole s)) (second s))
-    (no-prod (of s) s.args.res n.Node-at.result n.Node-at.ensures c.if1.true))
+    sym (ap (λ (x : Bool). x && same (left_side (whole s)) (first s) && same (right_side (whole s)) (second s))
+    (no_prod (of s) s.args.res n.Node-at.result n.Node-at.ensures c.if1.true))
 
 -- Where the kind was tested, the result is a product.
 abbrev read : tie.Else1 → tie.After-node-at
@@ -48,16 +48,16 @@ tree : (c : tie.Else1)
     ≡ prod (type_at (of (start (read c))) (read c).Node-at.result.left) (type_at (of (start (read c))) (read c).Node-at.result.right)
 tree c =
     let n = read c in
-    let s = start n in prod-tree (of s) s.args.res n.Node-at.result n.Node-at.ensures c.if1.false
+    let s = start n in prod_tree (of s) s.args.res n.Node-at.result n.Node-at.ensures c.if1.false
 
 -- What the rung asks, from what was answered of the two sides.
 judged : (c : tie.Else1) (l r : Bool) → l ≡ same (type_at (of (start (read c))) (read c).Node-at.result.left) (first (start (read c)))
     → r ≡ same (type_at (of (start (read c))) (read c).Node-at.result.right) (second (start (read c)))
     → (l && r)
-    ≡ (isProd (whole (start (read c))) && same (leftSide (whole (start (read c)))) (first (start (read c))) && same (rightSide (whole (start (read c)))) (second (start (read c))))
+    ≡ (is_prod (whole (start (read c))) && same (left_side (whole (start (read c)))) (first (start (read c))) && same (right_side (whole (start (read c)))) (second (start (read c))))
 judged c l r el er =
     let s = start (read c) in
-    ap₂ ◌&&◌ el er ∙ sym (ap (λ (x : Ty). isProd x && same (leftSide x) (first s) && same (rightSide x) (second s)) (tree c))
+    ap₂ ◌&&◌ el er ∙ sym (ap (λ (x : Ty). is_prod x && same (left_side x) (first s) && same (right_side x) (second s)) (tree c))
 
 same-type-requires : tie.Need-same-type-requires
 same-type-requires c κs =
@@ -74,7 +74,7 @@ returns-2 c =
 same-type-requires-2 : tie.Need-same-type-requires-2
 same-type-requires-2 c κs =
     let n = read c.before.before in
-    let s = start n in (s.pre.1.1.sound, (n.Node-at.ensures.right-in, s.pre.1.0.here))
+    let s = start n in (s.pre.1.1.sound, (n.Node-at.ensures.right_in, s.pre.1.0.here))
 
 returns-3 : tie.Need-returns-3
 returns-3 c =
@@ -82,7 +82,7 @@ returns-3 c =
     judged e.before.before true c.same-type2.result
     (sym (not-false e.before.same-type.result e.if2.false) ∙ e.before.same-type.ensures) c.same-type2.ensures
 
-pub joins-spec : {M : Type 1} → statement M
-joins-spec =
+pub joins_spec : {M : Type 1} → statement M
+joins_spec =
     tie.close
     (tie.spec node-at-requires returns same-type-requires returns-2 same-type-requires-2 returns-3)

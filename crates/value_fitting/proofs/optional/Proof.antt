@@ -2,10 +2,10 @@
 use mathlib.Core.Path.{sym, ap, ◌∙◌}
 use mathlib.Core.Bool.{Bool, ◌&&◌}
 use borrow.Author.Rules.{rules}
-use Rattle.meaning.specs.Types.{Ty, isSum, is_unit, leftSide}
+use Rattle.meaning.specs.Types.{Ty, is_sum, is_unit, left_side}
 use Rattle.meaning.specs.Tables.{Table, table}
 use Rattle.meaning.specs.Ladder.{type_at}
-use Rattle.checked.proofs.Nodes.{no-sum, sum-tree, unit-test}
+use Rattle.checked.proofs.Nodes.{no_sum, sum_tree, unit_test}
 use Rattle.value_fitting.proofs.optional.Statement.{statement}
 use Rattle.value_fitting.proofs.optional.Tie as tie
 
@@ -25,8 +25,8 @@ returns : tie.Need-returns
 returns c =
     let n = c.before.before in
     let s = start n in
-    sym (ap (λ (x : Bool). x && is_unit (leftSide (type_at (of s) s.args.res)))
-    (no-sum (of s) s.args.res n.Node-at.result n.Node-at.ensures c.if1.true))
+    sym (ap (λ (x : Bool). x && is_unit (left_side (type_at (of s) s.args.res)))
+    (no_sum (of s) s.args.res n.Node-at.result n.Node-at.ensures c.if1.true))
 
 node-at-requires-2 : tie.Need-node-at-requires-2
 node-at-requires-2 c κs = search rules
@@ -36,9 +36,9 @@ returns-2 c =
     let l = c.before in
     let n = l.before.before.before in
     let s = start n in
-    let w = sum-tree (of s) s.args.res n.Node-at.result n.Node-at.ensures l.before.if1.false in
-    unit-test (of s) n.Node-at.result.left l.node-at2.result l.node-at2.ensures
-    ∙ sym (ap (λ (x : Ty). isSum x && is_unit (leftSide x)) w)
+    let w = sum_tree (of s) s.args.res n.Node-at.result n.Node-at.ensures l.before.if1.false in
+    unit_test (of s) n.Node-at.result.left l.node-at2.result l.node-at2.ensures
+    ∙ sym (ap (λ (x : Ty). is_sum x && is_unit (left_side x)) w)
 
-pub optional-spec : {M : Type 1} → statement M
-optional-spec = tie.close (tie.spec node-at-requires returns node-at-requires-2 returns-2)
+pub optional_spec : {M : Type 1} → statement M
+optional_spec = tie.close (tie.spec node-at-requires returns node-at-requires-2 returns-2)

@@ -4,12 +4,12 @@ use mathlib.Core.Bool.{Bool, ◌&&◌}
 use Prim.Native.Nat.{◌≤◌, ◌<◌}
 use native.Mathlib.Omega.{arith}
 use borrow.Author.Rules.{rules}
-use Rattle.meaning.specs.Types.{Ty, same, isSum}
+use Rattle.meaning.specs.Types.{Ty, same, is_sum}
 use Rattle.meaning.specs.Tables.{Table, table}
 use Rattle.meaning.specs.Ladder.{type_at}
 use Rattle.nodes.specs.declared.Side.{Side}
-use Rattle.checked.specs.Sides.{sideType}
-use Rattle.checked.proofs.Nodes.{no-sum, sum-tree, side-read, side-type}
+use Rattle.checked.specs.Sides.{side_type}
+use Rattle.checked.proofs.Nodes.{no_sum, sum_tree, side_read, side-type}
 use Rattle.value_fitting.proofs.wraps.Statement.{statement}
 use Rattle.value_fitting.proofs.wraps.Tie as tie
 
@@ -29,8 +29,8 @@ returns : tie.Need-returns
 returns c =
     let n = c.before.before in
     let s = start n in
-    sym (ap (λ (x : Bool). x && same (sideType s.args.right (type_at (of s) s.args.res)) (type_at (of s) s.args.node))
-    (no-sum (of s) s.args.res n.Node-at.result n.Node-at.ensures c.if1.true))
+    sym (ap (λ (x : Bool). x && same (side_type s.args.right (type_at (of s) s.args.res)) (type_at (of s) s.args.node))
+    (no_sum (of s) s.args.res n.Node-at.result n.Node-at.ensures c.if1.true))
 
 side-of-requires : tie.Need-side-of-requires
 side-of-requires c κs = search rules
@@ -46,7 +46,7 @@ same-type-requires : tie.Need-same-type-requires
 same-type-requires c κs =
     let n = read c.before in
     let s = start n in
-    let side = side-read (of s) s.args.res n.Node-at.result n.Node-at.ensures s.pre.1 (inner c.before) s.args.right in (
+    let side = side_read (of s) s.args.res n.Node-at.result n.Node-at.ensures s.pre.1 (inner c.before) s.args.right in (
       s.pre.1.sound,
       (subst (λ (x : Side). x.node < s.args.count) (sym c.side-of.ensures) side.named.here, s.pre.0.here),
     )
@@ -63,8 +63,8 @@ returns-2 c =
     ∙ ap (λ (x : Ty). same x given)
     (ap (λ (x : Side). type_at (of s) x.node) c.before.side-of.ensures
     ∙ side-type (of s) s.args.res n.Node-at.result n.Node-at.ensures (inner b) g)
-    ∙ sym (ap (λ (x : Bool). x && same (sideType g whole) given)
-    (ap isSum (sum-tree (of s) s.args.res n.Node-at.result n.Node-at.ensures b.if1.false)))
+    ∙ sym (ap (λ (x : Bool). x && same (side_type g whole) given)
+    (ap is_sum (sum_tree (of s) s.args.res n.Node-at.result n.Node-at.ensures b.if1.false)))
 
-pub wraps-spec : {M : Type 1} → statement M
-wraps-spec = tie.close (tie.spec node-at-requires returns side-of-requires same-type-requires returns-2)
+pub wraps_spec : {M : Type 1} → statement M
+wraps_spec = tie.close (tie.spec node-at-requires returns side-of-requires same-type-requires returns-2)

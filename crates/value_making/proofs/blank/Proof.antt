@@ -10,7 +10,7 @@ use Rattle.meaning.specs.Types.{bits}
 use Rattle.meaning.specs.Tables.{Table, table}
 use Rattle.meaning.specs.Bits.{zeros, written}
 use Rattle.meaning.specs.Ladder.{type_at, ladder}
-use Rattle.meaning.specs.RecordCalls.{zeroBits}
+use Rattle.meaning.specs.RecordCalls.{zero_bits}
 use Rattle.checked.proofs.Made.{short, done}
 use Rattle.value_making.proofs.blank.Statement.{statement}
 use Rattle.value_making.proofs.blank.Tie as tie
@@ -25,7 +25,7 @@ abbrev start : tie.After-width-of → tie.Start
 start c = c.before.before.before.before.before.before
 
 -- It is how many bits are written.
-count : (c : tie.After-width-of) → c.width_of_lem.result ≡ length (zeroBits (of (start c)) (start c).args.res)
+count : (c : tie.After-width-of) → c.width_of_lem.result ≡ length (zero_bits (of (start c)) (start c).args.res)
 count c =
     let s = start c in c.width_of_lem.ensures ∙ sym (length-replicate (bits (type_at (of s) s.args.res)) false)
 
@@ -40,7 +40,7 @@ unfolding ladder
 returns c =
     let n = c.before.before in
     let s = start n in
-    short [] (zeroBits (of s) s.args.res) s.args.out.now refl (omega (arith, count n, c.before.bytes-for.ensures))
+    short [] (zero_bits (of s) s.args.res) s.args.out.now refl (omega (arith, count n, c.before.bytes-for.ensures))
 
 write-zeros-requires : tie.Need-write-zeros-requires
 write-zeros-requires c κs =
@@ -60,12 +60,12 @@ returns-2 c =
     let b = c.before.before.before.before in
     let n = b.before.before in
     let s = start n in
-    done [] (zeroBits (of s) s.args.res) s.args.out.now refl (omega (arith, count n, b.if1.false, b.before.bytes-for.ensures))
+    done [] (zero_bits (of s) s.args.res) s.args.out.now refl (omega (arith, count n, b.if1.false, b.before.bytes-for.ensures))
     n.width_of_lem.result (count n)
     _
     (c.before.before.write-zeros.ensures ∙ ap (λ (w : ℕ). written (zeros w) s.args.out.now) n.width_of_lem.ensures)
 
-pub blank-spec : {M : Type 1} → statement M
-blank-spec =
+pub blank_spec : {M : Type 1} → statement M
+blank_spec =
     tie.close
     (tie.spec width-of-requires bytes-for-requires returns write-zeros-requires same_length returns-2)

@@ -7,16 +7,16 @@ use native.Mathlib.Omega.{arith}
 use lib.ListN.{length, length-append}
 use borrow.Author.Rules.{rules}
 use borrow.Author.Tests.{not-true, not-false}
-use Rattle.meaning.specs.Types.{Ty, same, bits, isProd, leftSide, rightSide}
+use Rattle.meaning.specs.Types.{Ty, same, bits, is_prod, left_side, right_side}
 use Rattle.meaning.specs.Tables.{Table, table}
 use Rattle.meaning.specs.Bits.{room, written}
-use Rattle.meaning.specs.Ladder.{accepted, ladder, Record, record_of, type_at, type_of, recordBits, shaped}
-use Rattle.meaning.specs.RecordCalls.{productBits}
-use Rattle.meaning.proofs.Types.{same-eq}
+use Rattle.meaning.specs.Ladder.{accepted, ladder, Record, record_of, type_at, type_of, record_bits, shaped}
+use Rattle.meaning.specs.RecordCalls.{product_bits}
+use Rattle.meaning.proofs.Types.{same_eq}
 use Rattle.meaning.proofs.Tests.{and_left, and_right}
-use Rattle.meaning.proofs.Records.{bits-prod}
-use Rattle.value_fitting.specs.Fits.{joinFits}
-use Rattle.checked.proofs.Lent.{starts, lent-run, lent-bits, own-length}
+use Rattle.meaning.proofs.Records.{bits_prod}
+use Rattle.value_fitting.specs.Fits.{join_fits}
+use Rattle.checked.proofs.Lent.{starts, lent_run, lent_bits, own_length}
 use Rattle.checked.proofs.Made.{stopped, short, done}
 use Rattle.checked.proofs.Shaped.{misshapen, shapely}
 use Rattle.value_making.proofs.Payloads.{is-prod}
@@ -40,10 +40,10 @@ abbrev whole : tie.Start → Ty
 whole s = type_at (of s) s.args.res
 
 abbrev ok : tie.Start → Bool
-ok s = joinFits (of s) s.args.a-node s.args.b-node s.args.res
+ok s = join_fits (of s) s.args.a-node s.args.b-node s.args.res
 
 abbrev made : tie.Start → List Bool
-made s = productBits (of s) (one s) (other s)
+made s = product_bits (of s) (one s) (other s)
 
 -- The entry of the function, from the place where the shape was asked.
 abbrev start : tie.After-joins → tie.Start
@@ -80,16 +80,16 @@ module _ (c : tie.Else1) where
   abbrev r : Ty
   r = type_of (of (asked c)) (other (asked c))
 
-  front : (isProd (whole (asked c)) && same (leftSide (whole (asked c))) (type_of (of (asked c)) (one (asked c)))) ≡ true
-  front = and_left (isProd x && same (leftSide x) l) (same (rightSide x) r) (right c)
+  front : (is_prod (whole (asked c)) && same (left_side (whole (asked c))) (type_of (of (asked c)) (one (asked c)))) ≡ true
+  front = and_left (is_prod x && same (left_side x) l) (same (right_side x) r) (right c)
 
   -- The widths of the parts add up to that of the result.
   total : bits (whole (asked c)) ≡ bits (type_of (of (asked c)) (one (asked c))) + bits (type_of (of (asked c)) (other (asked c)))
   total =
-      ap bits (is-prod x (and_left (isProd x) (same (leftSide x) l) front))
-      ∙ bits-prod (leftSide x) (rightSide x)
-      ∙ ap₂ (λ (a b : Ty). bits a + bits b) (same-eq (leftSide x) l (and_right (isProd x) (same (leftSide x) l) front))
-      (same-eq (rightSide x) r (and_right (isProd x && same (leftSide x) l) (same (rightSide x) r) (right c)))
+      ap bits (is-prod x (and_left (is_prod x) (same (left_side x) l) front))
+      ∙ bits_prod (left_side x) (right_side x)
+      ∙ ap₂ (λ (a b : Ty). bits a + bits b) (same_eq (left_side x) l (and_right (is_prod x) (same (left_side x) l) front))
+      (same_eq (right_side x) r (and_right (is_prod x && same (left_side x) l) (same (right_side x) r) (right c)))
 
   -- The record is as long as the result is wide.
   long : length (made (asked c)) ≡ bits (whole (asked c))
@@ -98,9 +98,9 @@ module _ (c : tie.Else1) where
       omega (
         arith,
         total,
-        length-append (recordBits (of s) (one s)) (recordBits (of s) (other s)),
-        own-length (of s) (one s) s.pre.0,
-        own-length (of s) (other s) s.pre.1.0,
+        length-append (record_bits (of s) (one s)) (record_bits (of s) (other s)),
+        own_length (of s) (one s) s.pre.0,
+        own_length (of s) (other s) s.pre.1.0,
       )
 
 width-of-requires : tie.Need-width-of-requires
@@ -174,7 +174,7 @@ write-product-requires c κs =
       omega (arith, wide n, given n, total (first n)),
       (
         record { inside = omega (arith, enough n); counted = omega (arith, wide n, a.pre.1.1.narrow) },
-        (lent-run (of a) (one a) a.pre.0 (m n) (given n), lent-run (of a) (other a) a.pre.1.0 (w n - m n) (rest n)),
+        (lent_run (of a) (one a) a.pre.0 (m n) (given n), lent_run (of a) (other a) a.pre.1.0 (w n - m n) (rest n)),
       ),
     )
 
@@ -190,11 +190,11 @@ returns-3 c =
     _
     (c.before.before.write-product.ensures
     ∙ ap (λ (v : List Bool). written v a.args.out.now)
-    (ap₂ (λ (p q : List Bool). p ++ q) (lent-bits (of a) (one a) a.pre.0 (m n) (given n))
-    (lent-bits (of a) (other a) a.pre.1.0 (w n - m n) (rest n))))
+    (ap₂ (λ (p q : List Bool). p ++ q) (lent_bits (of a) (one a) a.pre.0 (m n) (given n))
+    (lent_bits (of a) (other a) a.pre.1.0 (w n - m n) (rest n))))
 
-pub join-spec : {M : Type 1} → statement M
-join-spec =
+pub join_spec : {M : Type 1} → statement M
+join_spec =
     tie.close
     (tie.spec
     joins-requires

@@ -7,20 +7,20 @@ use native.Mathlib.Omega.{arith}
 use lib.ListN.{length}
 use borrow.Author.Rules.{rules}
 use borrow.Author.Tests.{not-true, not-false}
-use Rattle.meaning.specs.Types.{Ty, sum, same, bits, isSum, leftSide, rightSide}
+use Rattle.meaning.specs.Types.{Ty, sum, same, bits, is_sum, left_side, right_side}
 use Rattle.meaning.specs.Tables.{Table, table}
 use Rattle.meaning.specs.Bits.{zeros, room, written}
-use Rattle.meaning.specs.Ladder.{accepted, ladder, Record, record_of, type_at, type_of, recordBits, shaped}
-use Rattle.meaning.proofs.Types.{same-eq}
+use Rattle.meaning.specs.Ladder.{accepted, ladder, Record, record_of, type_at, type_of, record_bits, shaped}
+use Rattle.meaning.proofs.Types.{same_eq}
 use Rattle.meaning.proofs.Tests.{and_left, and_right}
-use Rattle.checked.specs.Sides.{sideType}
-use Rattle.value_fitting.specs.Fits.{wrapFits}
-use Rattle.value_making.specs.Wraps.{wrapBits}
-use Rattle.checked.proofs.Lent.{starts, lent-run, lent-bits, own-length}
+use Rattle.checked.specs.Sides.{side_type}
+use Rattle.value_fitting.specs.Fits.{wrap_fits}
+use Rattle.value_making.specs.Wraps.{wrap_bits}
+use Rattle.checked.proofs.Lent.{starts, lent_run, lent_bits, own_length}
 use Rattle.checked.proofs.Made.{stopped, short, done}
 use Rattle.checked.proofs.Shaped.{misshapen, shapely}
-use Rattle.checked.proofs.Nodes.{before-payload}
-use Rattle.value_making.proofs.Payloads.{is_sum, wrapped-length, wrapped-pieces}
+use Rattle.checked.proofs.Nodes.{before_payload}
+use Rattle.value_making.proofs.Payloads.{is_sum_lem, wrapped_length, wrapped_pieces}
 use Rattle.value_making.proofs.wrap.Statement.{statement}
 use Rattle.value_making.proofs.wrap.Tie as tie
 
@@ -35,17 +35,17 @@ it s = record_of s.args.bytes.now s.args.offset s.args.node
 
 -- Whether the result fits, and the bits of the record.
 abbrev ok : tie.Start → Bool
-ok s = wrapFits s.args.right (of s) s.args.node s.args.res
+ok s = wrap_fits s.args.right (of s) s.args.node s.args.res
 
 abbrev made : tie.Start → List Bool
-made s = wrapBits s.args.right (of s) (it s) s.args.res
+made s = wrap_bits s.args.right (of s) (it s) s.args.res
 
 -- The type of the result, and that of the side that the payload takes.
 abbrev whole : tie.Start → Ty
 whole s = type_at (of s) s.args.res
 
 abbrev side : tie.Start → Ty
-side s = sideType s.args.right (whole s)
+side s = side_type s.args.right (whole s)
 
 -- The entry of the function, from the place where the shape was asked.
 abbrev start : tie.After-wraps → tie.Start
@@ -71,23 +71,23 @@ right c = sym c.before.wraps.ensures ∙ not-false c.before.wraps.result c.if1.f
 passed : (c : tie.Else1) → ladder (shaped (ok (asked c))) (tt {0}) ≡ accepted (tt {0})
 passed c = shapely (ok (asked c)) (right c)
 
-tree : (c : tie.Else1) → whole (asked c) ≡ sum (leftSide (whole (asked c))) (rightSide (whole (asked c)))
+tree : (c : tie.Else1) → whole (asked c) ≡ sum (left_side (whole (asked c))) (right_side (whole (asked c)))
 tree c =
     let s = asked c in
-    is_sum (whole s) (and_left (isSum (whole s)) (same (side s) (type_of (of s) (it s))) (right c))
+    is_sum_lem (whole s) (and_left (is_sum (whole s)) (same (side s) (type_of (of s) (it s))) (right c))
 
 fitting : (c : tie.Else1) → side (asked c) ≡ type_of (of (asked c)) (it (asked c))
 fitting c =
     let s = asked c in
-    same-eq (side s) (type_of (of s) (it s))
-    (and_right (isSum (whole s)) (same (side s) (type_of (of s) (it s))) (right c))
+    same_eq (side s) (type_of (of s) (it s))
+    (and_right (is_sum (whole s)) (same (side s) (type_of (of s) (it s))) (right c))
 
 -- The record is as long as the result is wide.
 long : (c : tie.Else1) → length (made (asked c)) ≡ bits (whole (asked c))
 long c =
     let s = asked c in
-    wrapped-length s.args.right (whole s) (leftSide (whole s)) (rightSide (whole s)) (recordBits (of s) (it s)) (tree c)
-    (own-length (of s) (it s) s.pre.0 ∙ ap bits (sym (fitting c)))
+    wrapped_length s.args.right (whole s) (left_side (whole s)) (right_side (whole s)) (record_bits (of s) (it s)) (tree c)
+    (own_length (of s) (it s) s.pre.0 ∙ ap bits (sym (fitting c)))
 
 width-of-requires : tie.Need-width-of-requires
 width-of-requires c κs = (asked c).requires.1
@@ -134,7 +134,7 @@ module _ (c : tie.After-width-of2) where
 
   below : k < w
   below =
-      let q = before-payload s.args.right (whole s) (leftSide (whole s)) (rightSide (whole s)) (tree first) in
+      let q = before_payload s.args.right (whole s) (left_side (whole s)) (right_side (whole s)) (tree first) in
       omega (arith, wide, sided)
 
   enough : room w ≤ length s.args.out.now
@@ -155,7 +155,7 @@ write-sum-requires c κs =
       below m,
       (
         record { inside = omega (arith, enough m); counted = omega (arith, wide m, (s m).requires.1.narrow) },
-        lent-run (of (s m)) (it (s m)) (s m).requires.0 (k m) (given m),
+        lent_run (of (s m)) (it (s m)) (s m).requires.0 (k m) (given m),
       ),
     )
 
@@ -172,8 +172,8 @@ returns-3 c =
     _
     (c.before.before.write-sum.ensures
     ∙ ap (λ (v : List Bool). written v a.args.out.now)
-    (ap (λ (p : List Bool). g ∷ (zeros (w m - 1 - k m) ++ p)) (lent-bits (of a) (it a) a.pre.0 (k m) (given m))
-    ∙ wrapped-pieces g (whole a) (leftSide (whole a)) (rightSide (whole a)) (recordBits (of a) (it a)) (tree (first m)) (w m) (k m) (wide m)
+    (ap (λ (p : List Bool). g ∷ (zeros (w m - 1 - k m) ++ p)) (lent_bits (of a) (it a) a.pre.0 (k m) (given m))
+    ∙ wrapped_pieces g (whole a) (left_side (whole a)) (right_side (whole a)) (record_bits (of a) (it a)) (tree (first m)) (w m) (k m) (wide m)
     (sided m)))
 
 pub wrap_spec : {M : Type 1} → statement M

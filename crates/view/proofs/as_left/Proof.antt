@@ -17,12 +17,12 @@ use denote.Triple.Statement.{Contract, Triple}
 use denote.Triple.Spec.{Meets}
 use denote.Triple.Table.{entered, cited}
 use Rattle.meaning.specs.Ladder.{record_of}
-use Rattle.meaning.specs.RecordCalls.{asLeftCall}
+use Rattle.meaning.specs.RecordCalls.{as_left_call}
 use Rattle.answers.specs.Verdicts.{spot_of}
 use Rattle.answers.specs.contracts.SpotAnswer as S
 use Rattle.answers.proofs.SpotAnswer.TheLaws as S'
 use Rattle.view.specs.contracts.Sub as R
-use Rattle.view.proofs.Beside.{beside-meets, name_of}
+use Rattle.view.proofs.Beside.{beside_meets, name_of}
 use Rattle.view.proofs.Columns.{table_of}
 use Rattle.view.proofs.Owned.{packed}
 use Rattle.view.proofs.Thin.{Asked}
@@ -44,7 +44,7 @@ module _ {M : Type 1} {𝓤 : Ura M} (𝓛 : Logic 𝓤) (mem : Memory → SProp
   meets : (𝓣 : Tables 𝓤 H) → Triple 𝓤 (𝓣.C #value·as-left) Callee
       → Meets 𝓛 function.signature (WpFn 𝓤 H 𝓣.C 𝓣.Λ code.function) (function.spec 𝓛 mem run)
   meets 𝓣 met =
-      beside-meets 𝓛 #value·as-left S.the_row S'.mir (name_of R.the_type) R.the_row
+      beside_meets 𝓛 #value·as-left S.the_row S'.mir (name_of R.the_type) R.the_row
       (record {
         typed = λ r u is. ((EL.lawful S.the_type S'.the_laws 𝓛 tt).typed r (u ∷ []) is).0;
         made = λ α s r. record { bytes = s; at = r };
@@ -55,15 +55,15 @@ module _ {M : Type 1} {𝓤 : Ura M} (𝓛 : Logic 𝓤) (mem : Memory → SProp
       (record {
         ghost = λ κs b. tt;
         free = λ κs b. id⊢ 𝓤 (emp 𝓤);
-        known = λ κs t d r. spot_of r ≡ asLeftCall (table_of 1 κs t) (record_of d.bytes.now d.offset d.node);
+        known = λ κs t d r. spot_of r ≡ as_left_call (table_of 1 κs t) (record_of d.bytes.now d.offset d.node);
         said = λ κs t d r e. id⊢ 𝓤 _;
         says = λ κs t d g r e x. fact_i 𝓤 _ (emp 𝓤) (refl, e);
       })
       𝓣 met
 
-pub as-left-spec : {M : Type 1} → stated.statement M
+pub as_left_spec : {M : Type 1} → stated.statement M
 unfolding code.routine tables_of
-as-left-spec 𝓤 𝓛 𝓜 𝓡 =
+as_left_spec 𝓤 𝓛 𝓜 𝓡 =
     entered 𝓤 𝓛.H (Asked 𝓛 function.ended (function.clauses 𝓛 𝓜.mem 𝓡.run))
     (tables 𝓤 𝓛.H 𝓜 𝓡 code.env).C (tables 𝓤 𝓛.H 𝓜 𝓡 code.env).Λ #view·as-left code.function (code.unfolded 𝓤 𝓛.H 𝓜 𝓡)
     (meets 𝓛 𝓜.mem 𝓡.run (tables_of 𝓤 𝓛.H 𝓜 (tables 𝓤 𝓛.H 𝓜 𝓡 code.env))

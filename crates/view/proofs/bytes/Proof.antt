@@ -29,7 +29,7 @@ use denote.Triple.Table.{entered}
 use Rattle.view.specs.declared.View.{View}
 use Rattle.view.specs.contracts.View as T
 use Rattle.view.proofs.View.TheLaws as T'
-use Rattle.view.proofs.Apart.{field_vals, view-told, opened}
+use Rattle.view.proofs.Apart.{field_vals, view_told, opened}
 use Rattle.view.proofs.Locals.{allocates, clears}
 use Rattle.view.proofs.Thin.{Quiet, Asked, begins, ends}
 use Rattle.view.specs.contracts.bytes.Key.{name as #view·bytes}
@@ -77,15 +77,15 @@ module _ {M : Type 1} {𝓤 : Ura M} (𝓛 : Logic 𝓤) (mem : Memory → SProp
         assigns ! (of_opd ! (load ! (from ! (fld ! refl (stop !))) (look_in ! 0 (sub ! 0 refl (whole !))))) (from ! (stop !)) (init ! 2 refl (tt, wt.1.0)) $
         returns ! (look ! 2 refl) $ clears ! (code.function).locals l (v ∷ mach ∷ []) $ by ! exits)
 
-bytes-meets : {M : Type 1} {𝓤 : Ura M} (𝓛 : Logic 𝓤) (mem : Memory → SProp 𝓤) (run : Routine → Fun 𝓤) (𝓣 : Tables 𝓤 𝓛.H)
+bytes_meets : {M : Type 1} {𝓤 : Ura M} (𝓛 : Logic 𝓤) (mem : Memory → SProp 𝓤) (run : Routine → Fun 𝓤) (𝓣 : Tables 𝓤 𝓛.H)
     → Meets 𝓛 bytes.signature (WpFn 𝓤 𝓛.H 𝓣.C 𝓣.Λ code.function) (bytes.spec 𝓛 mem run)
-bytes-meets {𝓤 = 𝓤} 𝓛 mem run 𝓣 =
-    begins 𝓛 bytes.ended (bytes.clauses 𝓛 mem run) (WpFn 𝓤 𝓛.H 𝓣.C 𝓣.Λ code.function) (λ κs. (view-told 𝓛 (named_lft 1 0 tt κs), tt))
+bytes_meets {𝓤 = 𝓤} 𝓛 mem run 𝓣 =
+    begins 𝓛 bytes.ended (bytes.clauses 𝓛 mem run) (WpFn 𝓤 𝓛.H 𝓣.C 𝓣.Λ code.function) (λ κs. (view_told 𝓛 (named_lft 1 0 tt κs), tt))
     (λ κs qs bounds a g ty. walk 𝓛 mem run κs.0 qs.0 a.0 𝓣.C 𝓣.Λ ty.0)
 
-pub bytes-spec : {M : Type 1} → stated.statement M
+pub bytes_spec : {M : Type 1} → stated.statement M
 unfolding code.routine tables_of
-bytes-spec 𝓤 𝓛 𝓜 𝓡 =
+bytes_spec 𝓤 𝓛 𝓜 𝓡 =
     entered 𝓤 𝓛.H (Bytes 𝓛 𝓜.mem 𝓡.run) (tables 𝓤 𝓛.H 𝓜 𝓡 code.env).C (tables 𝓤 𝓛.H 𝓜 𝓡 code.env).Λ #view·bytes code.function
     (code.unfolded 𝓤 𝓛.H 𝓜 𝓡)
-    (bytes-meets 𝓛 𝓜.mem 𝓡.run (tables_of 𝓤 𝓛.H 𝓜 (tables 𝓤 𝓛.H 𝓜 𝓡 code.env)))
+    (bytes_meets 𝓛 𝓜.mem 𝓡.run (tables_of 𝓤 𝓛.H 𝓜 (tables 𝓤 𝓛.H 𝓜 𝓡 code.env)))

@@ -30,22 +30,22 @@ use denote.Triple.Call.{calls_at}
 use denote.Triple.Entry.{Args, Vals, on_entry}
 use denote.Triple.Spec.{Meets}
 use denote.Triple.Table.{entered, cited}
-use Rattle.meaning.specs.TypeCalls.{isUnitCall}
-use Rattle.answers.specs.Verdicts.{flagOf}
+use Rattle.meaning.specs.TypeCalls.{is_unit_call}
+use Rattle.answers.specs.Verdicts.{flag_of}
 use Rattle.answers.specs.declared.Flag.{Flag}
 use Rattle.answers.specs.contracts.Flag as S
 use Rattle.answers.proofs.Flag.TheLaws as S'
 use Rattle.view.specs.declared.View.{View}
 use Rattle.view.specs.contracts.View as T
 use Rattle.view.proofs.View.TheLaws as T'
-use Rattle.view.proofs.Apart.{field_vals, view-told, opened}
-use Rattle.view.proofs.Beside.{viewLft}
-use Rattle.view.proofs.Columns.{slices, columnParams, lfts, columnTypes, Columns, columnVals, columns-told, table_of}
-use Rattle.view.proofs.Locals.{from-to, allocates, clears, arg}
-use Rattle.view.proofs.Owned.{denotsOf, valssOf, firsts, seconds, front}
-use Rattle.view.proofs.Passed.{toldsOf}
+use Rattle.view.proofs.Apart.{field_vals, view_told, opened}
+use Rattle.view.proofs.Beside.{view_lft}
+use Rattle.view.proofs.Columns.{slices, column_params, lfts, column_types, Columns, column_vals, columns_told, table_of}
+use Rattle.view.proofs.Locals.{from_to, allocates, clears, arg}
+use Rattle.view.proofs.Owned.{denots_of, valss_of, firsts, seconds, front}
+use Rattle.view.proofs.Passed.{tolds_of}
 use Rattle.view.proofs.Thin.{Quiet, Asked, begins, asks, hears, ends}
-use Rattle.view.proofs.Tokens.{initLfts, lastLft, initShares, lastShare, apart, together}
+use Rattle.view.proofs.Tokens.{init_lfts, last_lft, init_shares, last_share, apart, together}
 use Rattle.types.specs.contracts.is_unit as question
 use Rattle.types.proofs.is_unit.Symbol as question-def
 use Rattle.types.proofs.is_unit.Symbol.{name as #types·is-unit}
@@ -55,7 +55,7 @@ use Rattle.view.specs.contracts.is_unit as unit
 use Rattle.view.proofs.is_unit.Statement as stated
 use Rattle.view.proofs.is_unit.Code as code
 
-quiet : Quiet unit.ended (1 + columnParams)
+quiet : Quiet unit.ended (1 + column_params)
 quiet = record { bound = λ κs a. refl; told = λ κs a ws. refl }
 
 module _ {M : Type 1} {𝓤 : Ura M} (𝓛 : Logic 𝓤) (mem : Memory → SProp 𝓤) (run : Routine → Fun 𝓤) where
@@ -70,19 +70,19 @@ module _ {M : Type 1} {𝓤 : Ura M} (𝓛 : Logic 𝓤) (mem : Memory → SProp
   open 𝓛 use {H, A}
 
   abbrev α : NamedLft
-  α = viewLft κs
+  α = view_lft κs
 
   abbrev mach : Val
   mach = T'.lowered d
 
   abbrev params : List RattleType
-  params = columnTypes 1 κs ++ T.the_row α ∷ []
+  params = column_types 1 κs ++ T.the_row α ∷ []
 
   abbrev a : Args unit.signature κs
-  a = denotsOf (columnTypes 1 κs) (T.the_row α ∷ []) t (d, tt)
+  a = denots_of (column_types 1 κs) (T.the_row α ∷ []) t (d, tt)
 
   abbrev vs : Vals unit.signature κs
-  vs = valssOf (columnTypes 1 κs) (T.the_row α ∷ []) (columnVals 1 κs t) (mach ∷ [], tt)
+  vs = valss_of (column_types 1 κs) (T.the_row α ∷ []) (column_vals 1 κs t) (mach ∷ [], tt)
 
   abbrev at : (Unity 𝓛 mem run).Ghost
   at = ((κs, qs, tt, a, vs), tt)
@@ -91,18 +91,18 @@ module _ {M : Type 1} {𝓤 : Ura M} (𝓛 : Logic 𝓤) (mem : Memory → SProp
   abbrev to : (Question 𝓛 mem run).Ghost
   to = (
     (
-      initLfts slices κs,
-      initShares slices qs,
+      init_lfts slices κs,
+      init_shares slices qs,
       tt,
-      denotsOf (columnTypes 1 κs) (usize ∷ []) t (d.node, tt),
-      valssOf (columnTypes 1 κs) (usize ∷ []) (columnVals 1 κs t) (vint w64 d.node ∷ [], tt),
+      denots_of (column_types 1 κs) (usize ∷ []) t (d.node, tt),
+      valss_of (column_types 1 κs) (usize ∷ []) (column_vals 1 κs t) (vint w64 d.node ∷ [], tt),
     ),
     tt,
   )
 
   -- the token that the callee is not lent
   abbrev Token : SProp 𝓤
-  Token = A.lft (lastLft slices κs) (lastShare slices qs)
+  Token = A.lft (last_lft slices κs) (last_share slices qs)
 
   -- of what the view owns, the node's part
   node : ent 𝓤 (sem 𝓛 (owns (T.the_row α ∷ []) (d, tt) (mach ∷ [], tt))) (sem 𝓛 (owns (usize ∷ []) (d.node, tt) (vint w64 d.node ∷ [], tt)))
@@ -116,22 +116,22 @@ module _ {M : Type 1} {𝓤 : Ura M} (𝓛 : Logic 𝓤) (mem : Memory → SProp
 
   lends : ent 𝓤 (on_entry 𝓛 unit.signature κs qs a vs) (sep 𝓤 ((Question 𝓛 mem run).pre to) Token)
   lends =
-      let tokens : SProp 𝓤 = toks 𝓛 slices (initLfts slices κs) (initShares slices qs) in
-      let passed : SProp 𝓤 = sem 𝓛 (owns (columnTypes 1 κs ++ usize ∷ []) to.0.3 to.0.4) in
+      let tokens : SProp 𝓤 = toks 𝓛 slices (init_lfts slices κs) (init_shares slices qs) in
+      let passed : SProp 𝓤 = sem 𝓛 (owns (column_types 1 κs ++ usize ∷ []) to.0.3 to.0.4) in
       via 𝓤 (sep 𝓤 (sep 𝓤 tokens Token) passed)
       (mono∗ 𝓤 (apart 𝓛 slices κs qs) (front 𝓛 (T.the_row α ∷ []) (usize ∷ []) (d, tt) (mach ∷ [], tt) (d.node, tt) (vint w64 d.node ∷ [], tt) node
-      (columnTypes 1 κs) t (columnVals 1 κs t)))
+      (column_types 1 κs) t (column_vals 1 κs t)))
       (via 𝓤 (sep 𝓤 (sep 𝓤 tokens passed) Token) (qed 𝓛 ((raw tokens ⊛ raw Token) ∷ raw passed ∷ []) ∵ split ! $ move ! (0 ∷ 2 ∷ []) $ join ! $ done !)
       (mono_l 𝓤 Token (asks 𝓛 question.ended (question.clauses 𝓛 mem run) to (id⊢ 𝓤 (emp 𝓤)))))
 
   abbrev φ : Flag → Type 0
-  φ r = flagOf r ≡ isUnitCall (table_of 1 κs t) d.node
+  φ r = flag_of r ≡ is_unit_call (table_of 1 κs t) d.node
 
-  exits : (r : Flag) (u : Val) → φ r → ent 𝓤 (⋆ 𝓛 (‵ ((S.the_row).own_val r (u ∷ [])) ∷ raw (toks 𝓛 slices (initLfts slices κs) (initShares slices qs)) ∷ raw Token ∷ []))
+  exits : (r : Flag) (u : Val) → φ r → ent 𝓤 (⋆ 𝓛 (‵ ((S.the_row).own_val r (u ∷ [])) ∷ raw (toks 𝓛 slices (init_lfts slices κs) (init_shares slices qs)) ∷ raw Token ∷ []))
       ((Unity 𝓛 mem run).post at u)
   exits r u e =
       via 𝓤 (sep 𝓤 (sem 𝓛 ((S.the_row).own_val r (u ∷ []))) (toks 𝓛 (lfts 1) κs qs)) (mono_r 𝓤 (sem 𝓛 ((S.the_row).own_val r (u ∷ []))) (together 𝓛 slices κs qs))
-      (ends 𝓛 unit.ended (unit.clauses 𝓛 mem run) at u (1 + columnParams) quiet r (λ _. fact_i 𝓤 (φ r) (emp 𝓤) e))
+      (ends 𝓛 unit.ended (unit.clauses 𝓛 mem run) at u (1 + column_params) quiet r (λ _. fact_i 𝓤 (φ r) (emp 𝓤) e))
 
   module _ (C : Calls 𝓤 H) (Λ : Loops 𝓤 H) (fm : FmC 𝓤 H 𝓛.laws C) (known : Triple 𝓤 (C #types·is-unit) (Question 𝓛 mem run)) where
     walk : Typed (mirs params) (flat params vs)
@@ -152,22 +152,22 @@ module _ {M : Type 1} {𝓤 : Ura M} (𝓛 : Logic 𝓤) (mem : Memory → SProp
         hears 𝓛 question.ended (question.clauses 𝓛 mem run) to u ! tt φ (λ r e. id⊢ 𝓤 _) (λ r e is.
         -- [the result; the tokens; the last token; _7; …; _1; …; room for _0; …]
         land ! (from ! (stop !)) (init ! 17 refl ((EL.lawful S.the_type S'.the_laws 𝓛 tt).typed r _ is).0) $
-        returns ! (look ! 17 refl) $ move ! (from-to 3 16) $ clears ! (code.function).locals l (u ∷ (flat params vs ++ vint w64 d.node ∷ [])) $
+        returns ! (look ! 17 refl) $ move ! (from_to 3 16) $ clears ! (code.function).locals l (u ∷ (flat params vs ++ vint w64 d.node ∷ [])) $
         by ! (exits r u e))))
 
-unit-meets : {M : Type 1} {𝓤 : Ura M} (𝓛 : Logic 𝓤) (mem : Memory → SProp 𝓤) (run : Routine → Fun 𝓤) (𝓣 : Tables 𝓤 𝓛.H)
+unit_meets : {M : Type 1} {𝓤 : Ura M} (𝓛 : Logic 𝓤) (mem : Memory → SProp 𝓤) (run : Routine → Fun 𝓤) (𝓣 : Tables 𝓤 𝓛.H)
     → Triple 𝓤 (𝓣.C #types·is-unit) (Question 𝓛 mem run)
     → Meets 𝓛 unit.signature (WpFn 𝓤 𝓛.H 𝓣.C 𝓣.Λ code.function) (unit.spec 𝓛 mem run)
-unit-meets {𝓤 = 𝓤} 𝓛 mem run 𝓣 known =
+unit_meets {𝓤 = 𝓤} 𝓛 mem run 𝓣 known =
     begins 𝓛 unit.ended (unit.clauses 𝓛 mem run) (WpFn 𝓤 𝓛.H 𝓣.C 𝓣.Λ code.function)
-    (λ κs. toldsOf 𝓛 (columnTypes 1 κs) (T.the_row (viewLft κs) ∷ []) (columns-told 1 κs 𝓛) (view-told 𝓛 (viewLft κs), tt))
-    (λ κs qs bounds a g ty. walk 𝓛 mem run κs qs (firsts (columnTypes 1 κs) (T.the_row (viewLft κs) ∷ []) a) (seconds (columnTypes 1 κs) (T.the_row (viewLft κs) ∷ []) a).0
+    (λ κs. tolds_of 𝓛 (column_types 1 κs) (T.the_row (view_lft κs) ∷ []) (columns_told 1 κs 𝓛) (view_told 𝓛 (view_lft κs), tt))
+    (λ κs qs bounds a g ty. walk 𝓛 mem run κs qs (firsts (column_types 1 κs) (T.the_row (view_lft κs) ∷ []) a) (seconds (column_types 1 κs) (T.the_row (view_lft κs) ∷ []) a).0
     𝓣.C 𝓣.Λ (fm_of 𝓤 𝓛.H 𝓛.laws 𝓣) known ty)
 
-pub is-unit-spec : {M : Type 1} → stated.statement M
+pub is_unit_spec : {M : Type 1} → stated.statement M
 unfolding code.routine tables_of
-is-unit-spec 𝓤 𝓛 𝓜 𝓡 =
+is_unit_spec 𝓤 𝓛 𝓜 𝓡 =
     entered 𝓤 𝓛.H (Unity 𝓛 𝓜.mem 𝓡.run) (tables 𝓤 𝓛.H 𝓜 𝓡 code.env).C (tables 𝓤 𝓛.H 𝓜 𝓡 code.env).Λ #view·is-unit code.function
     (code.unfolded 𝓤 𝓛.H 𝓜 𝓡)
-    (unit-meets 𝓛 𝓜.mem 𝓡.run (tables_of 𝓤 𝓛.H 𝓜 (tables 𝓤 𝓛.H 𝓜 𝓡 code.env))
+    (unit_meets 𝓛 𝓜.mem 𝓡.run (tables_of 𝓤 𝓛.H 𝓜 (tables 𝓤 𝓛.H 𝓜 𝓡 code.env))
     (cited 𝓤 𝓛.H (Question 𝓛 𝓜.mem 𝓡.run) 𝓜 𝓡 code.env #types·is-unit question-def.routine code.calls-types::is-unit (question-thm.met 𝓤 𝓛 𝓜 𝓡)))

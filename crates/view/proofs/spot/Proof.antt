@@ -32,7 +32,7 @@ use Rattle.answers.proofs.Spot.TheLaws as S'
 use Rattle.view.specs.declared.View.{View}
 use Rattle.view.specs.contracts.View as T
 use Rattle.view.proofs.View.TheLaws as T'
-use Rattle.view.proofs.Apart.{field_vals, view-told, opened}
+use Rattle.view.proofs.Apart.{field_vals, view_told, opened}
 use Rattle.view.proofs.Locals.{allocates, clears, arg}
 use Rattle.view.proofs.Owned.{packed}
 use Rattle.view.proofs.Thin.{Quiet, Asked, begins, ends}
@@ -95,15 +95,15 @@ module _ {M : Type 1} {𝓤 : Ura M} (𝓛 : Logic 𝓤) (mem : Memory → SProp
         (init ! 6 refl (tt, (wt.1.1.0, (wt.1.1.1.0, tt)))) $
         returns ! (look ! 6 refl) $ clears ! (code.function).locals l (v ∷ mach ∷ vint w64 d.offset ∷ vint w64 d.node ∷ []) $ by ! exits)
 
-spot-meets : {M : Type 1} {𝓤 : Ura M} (𝓛 : Logic 𝓤) (mem : Memory → SProp 𝓤) (run : Routine → Fun 𝓤) (𝓣 : Tables 𝓤 𝓛.H)
+spot_meets : {M : Type 1} {𝓤 : Ura M} (𝓛 : Logic 𝓤) (mem : Memory → SProp 𝓤) (run : Routine → Fun 𝓤) (𝓣 : Tables 𝓤 𝓛.H)
     → Meets 𝓛 spot.signature (WpFn 𝓤 𝓛.H 𝓣.C 𝓣.Λ code.function) (spot.spec 𝓛 mem run)
-spot-meets {𝓤 = 𝓤} 𝓛 mem run 𝓣 =
-    begins 𝓛 spot.ended (spot.clauses 𝓛 mem run) (WpFn 𝓤 𝓛.H 𝓣.C 𝓣.Λ code.function) (λ κs. (view-told 𝓛 (named_lft 1 0 tt κs), tt))
+spot_meets {𝓤 = 𝓤} 𝓛 mem run 𝓣 =
+    begins 𝓛 spot.ended (spot.clauses 𝓛 mem run) (WpFn 𝓤 𝓛.H 𝓣.C 𝓣.Λ code.function) (λ κs. (view_told 𝓛 (named_lft 1 0 tt κs), tt))
     (λ κs qs bounds a g ty. walk 𝓛 mem run κs.0 qs.0 a.0 𝓣.C 𝓣.Λ ty.0)
 
-pub spot-spec : {M : Type 1} → stated.statement M
+pub spot_spec : {M : Type 1} → stated.statement M
 unfolding code.routine tables_of
-spot-spec 𝓤 𝓛 𝓜 𝓡 =
+spot_spec 𝓤 𝓛 𝓜 𝓡 =
     entered 𝓤 𝓛.H (Spotted 𝓛 𝓜.mem 𝓡.run) (tables 𝓤 𝓛.H 𝓜 𝓡 code.env).C (tables 𝓤 𝓛.H 𝓜 𝓡 code.env).Λ #view·spot code.function
     (code.unfolded 𝓤 𝓛.H 𝓜 𝓡)
-    (spot-meets 𝓛 𝓜.mem 𝓡.run (tables_of 𝓤 𝓛.H 𝓜 (tables 𝓤 𝓛.H 𝓜 𝓡 code.env)))
+    (spot_meets 𝓛 𝓜.mem 𝓡.run (tables_of 𝓤 𝓛.H 𝓜 (tables 𝓤 𝓛.H 𝓜 𝓡 code.env)))

@@ -4,13 +4,13 @@ use mathlib.Core.Path.{◌≡◌, sym, ◌∙◌, ap}
 use mathlib.Core.List.{List, [], ◌∷◌}
 use lib.Dec.{ltb}
 use Rattle.meaning.specs.Tables.{Table, table}
-use Rattle.meaning.specs.Words.{asWord}
+use Rattle.meaning.specs.Words.{as_word}
 use Rattle.meaning.specs.Ladder.{accepted, type_at, shaped}
 use Rattle.answers.specs.Verdicts.{done_of}
 use Rattle.checked.specs.Passed.{Present}
-use Rattle.checked.proofs.Passed.{asked-passed}
-use Rattle.checked_present.proofs.Asking.{judged, asks-stop}
-use Rattle.word_types.proofs.Shaped.{no_word, word-told}
+use Rattle.checked.proofs.Passed.{asked_passed}
+use Rattle.checked_present.proofs.Asking.{judged, asks_stop}
+use Rattle.word_types.proofs.Shaped.{no_word, word_told}
 use Rattle.word_types.proofs.as_word.Statement.{statement}
 use Rattle.word_types.proofs.as_word.Tie as tie
 
@@ -27,7 +27,7 @@ passed : (c : tie.After-enum-told) → accepted (tt {0}) ≡ judged (of (entry c
 passed c = sym (ap done_of c.enum_told.given.1) ∙ c.before.before.one.ensures
 
 known : (c : tie.After-enum-told) → Present (of (entry c)) (entry c).args.node
-known c = (asked-passed (of (entry c)) ((entry c).args.node ∷ []) (sym (passed c))).1.0
+known c = (asked_passed (of (entry c)) ((entry c).args.node ∷ []) (sym (passed c))).1.0
 
 one-requires : tie.Need-one-requires
 one-requires c κs = search rules
@@ -39,7 +39,7 @@ returns : tie.Need-returns
 returns c =
     let s = c.before.before.before.before.before.before.before.before in
     let r = c.before.judged.given in
-    asks-stop (of s) (s.args.node ∷ []) (shaped (ltb (asWord (type_at (of s) s.args.node)) 32)) (asWord (type_at (of s) s.args.node)) r.0.0.number r.0.0.place
+    asks_stop (of s) (s.args.node ∷ []) (shaped (ltb (as_word (type_at (of s) s.args.node)) 32)) (as_word (type_at (of s) s.args.node)) r.0.0.number r.0.0.place
     (sym (ap done_of r.1) ∙ c.before.before.before.one.ensures)
 
 enum_told : tie.Need-enum-told
@@ -54,10 +54,10 @@ returns-2 c =
 
 returns-3 : tie.Need-returns-3
 returns-3 c =
-    let e = c.before.before in word-told (of (entry e)) (entry e).args.node (passed e) c.before.word_of.result c.before.word_of.ensures c.if1.false
+    let e = c.before.before in word_told (of (entry e)) (entry e).args.node (passed e) c.before.word_of.result c.before.word_of.ensures c.if1.false
 
-pub as-word-spec : {M : Type 1} → statement M
-as-word-spec =
+pub as_word_spec : {M : Type 1} → statement M
+as_word_spec =
     tie.close
     (tie.spec
     one-requires

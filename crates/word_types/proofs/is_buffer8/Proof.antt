@@ -9,9 +9,9 @@ use Rattle.meaning.specs.Words.{buffer}
 use Rattle.meaning.specs.Ladder.{accepted, type_at, ranged}
 use Rattle.answers.specs.Verdicts.{done_of}
 use Rattle.checked.specs.Passed.{Present}
-use Rattle.checked.proofs.Passed.{asked-passed}
-use Rattle.checked_present.proofs.Asking.{judged, asks-stop}
-use Rattle.word_types.proofs.Shaped.{no_buffer, buffer-told}
+use Rattle.checked.proofs.Passed.{asked_passed}
+use Rattle.checked_present.proofs.Asking.{judged, asks_stop}
+use Rattle.word_types.proofs.Shaped.{no_buffer, buffer_told}
 use Rattle.word_types.proofs.is_buffer8.Statement.{statement}
 use Rattle.word_types.proofs.is_buffer8.Tie as tie
 
@@ -28,7 +28,7 @@ passed : (c : tie.After-enum-told) → accepted (tt {0}) ≡ judged (of (entry c
 passed c = sym (ap done_of c.enum_told.given.1) ∙ c.before.before.one.ensures
 
 known : (c : tie.After-enum-told) → Present (of (entry c)) (entry c).args.node
-known c = (asked-passed (of (entry c)) ((entry c).args.node ∷ []) (sym (passed c))).1.0
+known c = (asked_passed (of (entry c)) ((entry c).args.node ∷ []) (sym (passed c))).1.0
 
 one-requires : tie.Need-one-requires
 one-requires c κs = search rules
@@ -40,7 +40,7 @@ returns : tie.Need-returns
 returns c =
     let s = c.before.before.before.before.before.before.before.before in
     let r = c.before.judged.given in
-    asks-stop (of s) (s.args.node ∷ []) (ranged (ltb s.args.n 13)) (same (type_at (of s) s.args.node) (buffer s.args.n)) r.0.0.number r.0.0.place
+    asks_stop (of s) (s.args.node ∷ []) (ranged (ltb s.args.n 13)) (same (type_at (of s) s.args.node) (buffer s.args.n)) r.0.0.number r.0.0.place
     (sym (ap done_of r.1) ∙ c.before.before.before.one.ensures)
 
 enum_told : tie.Need-enum-told
@@ -55,11 +55,11 @@ is-buffer-requires c κs = let k = known c.before in (k.sound, (k.here, c.if1.fa
 returns-3 : tie.Need-returns-3
 returns-3 c =
     let e = c.before.before in
-    buffer-told (of (entry e)) (entry e).args.node (passed e) (entry e).args.n c.before.if1.false c.is-buffer.result
+    buffer_told (of (entry e)) (entry e).args.node (passed e) (entry e).args.n c.before.if1.false c.is-buffer.result
     c.is-buffer.ensures
 
-pub is-buffer8-spec : {M : Type 1} → statement M
-is-buffer8-spec =
+pub is_buffer8_spec : {M : Type 1} → statement M
+is_buffer8_spec =
     tie.close
     (tie.spec
     one-requires

@@ -14,18 +14,18 @@ use borrow.Author.Tests.{lt-ltb, le-ltb, not-true, not-false}
 use Rattle.meaning.specs.Types.{bits, same}
 use Rattle.meaning.specs.Tables.{Table, table}
 use Rattle.meaning.specs.Bits.{bits_of}
-use Rattle.meaning.specs.Words.{buffer, bufferBits}
+use Rattle.meaning.specs.Words.{buffer, buffer_bits}
 use Rattle.meaning.specs.Ladder.{accepted, Rung, ladder, named, type_at}
-use Rattle.meaning.specs.WordCalls.{bufferRungs}
-use Rattle.meaning.proofs.Tests.{and_both, and-no-right}
-use Rattle.meaning.proofs.Powers.{pow-twelve}
+use Rattle.meaning.specs.WordCalls.{buffer_rungs}
+use Rattle.meaning.proofs.Tests.{and_both, and_no_right}
+use Rattle.meaning.proofs.Powers.{pow_twelve}
 use Rattle.meaning.proofs.WordWidths.{word-widths}
-use Rattle.bits.proofs.OfBytes.{are-bytes}
+use Rattle.bits.proofs.OfBytes.{are_bytes}
 use Rattle.bits.proofs.Packed.{finished}
-use Rattle.checked.proofs.Passes.{named-passes}
+use Rattle.checked.proofs.Passes.{named_passes}
 use Rattle.checked.proofs.Made.{stopped, short, done}
-use Rattle.checked.proofs.Shaped.{range-missed, range-shape, range-pass}
-use Rattle.words_laws.proofs.Parts.{length-buffer, buffer-small}
+use Rattle.checked.proofs.Shaped.{range_missed, range_shape, range_pass}
+use Rattle.words_laws.proofs.Parts.{length_buffer, buffer_small}
 use Rattle.words_buffers.proofs.make_buffer.Statement.{statement}
 use Rattle.words_buffers.proofs.make_buffer.Tie as tie
 
@@ -47,13 +47,13 @@ abbrev fits : tie.Start → Bool
 fits s = same (type_at (of s) s.args.res) (buffer s.args.n)
 
 abbrev rungs : tie.Start → List Rung
-rungs s = bufferRungs (of s) s.args.n s.args.«data».now s.args.res
+rungs s = buffer_rungs (of s) s.args.n s.args.«data».now s.args.res
 
 abbrev bits-of : tie.Start → List Bool
-bits-of s = bufferBits s.args.n s.args.«data».now
+bits-of s = buffer_bits s.args.n s.args.«data».now
 
 passed : (s : tie.Start) → ladder (before6 s) (tt {0}) ≡ accepted (tt {0})
-passed s = named-passes (of s) s.requires.sound (s.args.res ∷ []) (s.requires, tt)
+passed s = named_passes (of s) s.requires.sound (s.args.res ∷ []) (s.requires, tt)
 
 -- What the function is given, at any place past the first test.
 abbrev start : tie.Else1 → tie.Start
@@ -82,20 +82,20 @@ in-range c =
 all_right : (c : tie.Else3) → ladder (rungs (start c.before.before.before.before)) (tt {0}) ≡ accepted (tt {0})
 all_right c =
     let s = start c.before.before.before.before in
-    range-pass (before6 s) (ranges s) (fits s) (passed s) (in-range c.before.before)
+    range_pass (before6 s) (ranges s) (fits s) (passed s) (in-range c.before.before)
     (sym c.before.is-buffer.ensures ∙ not-false c.before.is-buffer.result c.if3.false)
 
 returns : tie.Need-returns
 returns c =
     let s = c.before.before.before.before.before.before.before in
     stopped (rungs s) (bits-of s) s.args.out.now 6 0
-    (range-missed (before6 s) (ranges s) (fits s) (passed s) (ap (λ (b : Bool). b && few s) (le-ltb s.args.n 13 c.if1.true)))
+    (range_missed (before6 s) (ranges s) (fits s) (passed s) (ap (λ (b : Bool). b && few s) (le-ltb s.args.n 13 c.if1.true)))
 
 word-width-requires : tie.Need-word-width-requires
 word-width-requires c κs = search rules
 
 mul-limit : tie.Need-overflow-mul-limit
-mul-limit c = let e = power c in let m = pow-twelve (start c.before).args.n c.before.if1.false in record { fits = omega arith }
+mul-limit c = let e = power c in let m = pow_twelve (start c.before).args.n c.before.if1.false in record { fits = omega arith }
 
 returns-2 : tie.Need-returns-2
 returns-2 c =
@@ -103,8 +103,8 @@ returns-2 c =
     let e = limit_is c.before in
     let l = c.if2.true in
     stopped (rungs s) (bits-of s) s.args.out.now 6 0
-    (range-missed (before6 s) (ranges s) (fits s) (passed s)
-    (and-no-right (ltb s.args.n 13) (few s) (le-ltb (length s.args.«data».now) (2 ^ (s.args.n + 1)) (omega arith))))
+    (range_missed (before6 s) (ranges s) (fits s) (passed s)
+    (and_no_right (ltb s.args.n 13) (few s) (le-ltb (length s.args.«data».now) (2 ^ (s.args.n + 1)) (omega arith))))
 
 is-buffer-requires : tie.Need-is-buffer-requires
 is-buffer-requires c κs = let s = start c.before.before in (s.pre.sound, (s.pre.here, c.before.before.if1.false))
@@ -113,27 +113,27 @@ returns-3 : tie.Need-returns-3
 returns-3 c =
     let s = start c.before.before.before.before in
     stopped (rungs s) (bits-of s) s.args.out.now 7 0
-    (range-shape (before6 s) (ranges s) (fits s) (passed s) (in-range c.before.before)
+    (range_shape (before6 s) (ranges s) (fits s) (passed s) (in-range c.before.before)
     (sym c.before.is-buffer.ensures ∙ not-true c.before.is-buffer.result c.if3.true))
 
 buffer-width-requires : tie.Need-buffer-width-requires
 buffer-width-requires c κs = search rules
 
 bytes-for-requires : tie.Need-bytes-for-requires
-bytes-for-requires c κs = let e = c.buffer-width.ensures in let m = buffer-small (start c.before.before.before.before.before).args.n c.before.before.before.before.before.if1.false in omega arith
+bytes-for-requires c κs = let e = c.buffer-width.ensures in let m = buffer_small (start c.before.before.before.before.before).args.n c.before.before.before.before.before.if1.false in omega arith
 
 returns-4 : tie.Need-returns-4
 returns-4 c =
     let s = start c.before.before.before.before.before.before.before in
     let e = c.before.before.buffer-width.ensures in
-    let l = length-buffer s.args.n s.args.«data».now in
+    let l = length_buffer s.args.n s.args.«data».now in
     let b = c.before.bytes-for.ensures in
     short (rungs s) (bits-of s) s.args.out.now (all_right c.before.before.before) (omega arith)
 
 write-buffer-requires : tie.Need-write-buffer-requires
 write-buffer-requires c κs =
     let e = c.before.before.before.buffer-width.ensures in
-    let m = buffer-small (start c.before.before.before.before.before.before.before.before).args.n c.before.before.before.before.before.before.before.before.if1.false in
+    let m = buffer_small (start c.before.before.before.before.before.before.before.before).args.n c.before.before.before.before.before.before.before.before.if1.false in
     let b = c.before.before.bytes-for.ensures in
     let r = c.before.if4.false in
     (c.before.before.before.before.before.before.before.before.if1.false, record { inside = omega arith; counted = omega arith })
@@ -150,20 +150,20 @@ returns-5 c =
     let a = s.args in
     let w = c.before.before.before.before.before.before.before.before.before.before.buffer-width.result in
     let e : w ≡ bits (buffer a.n) = c.before.before.before.before.before.before.before.before.before.before.buffer-width.ensures in
-    let l = length-buffer a.n a.«data».now in
+    let l = length_buffer a.n a.«data».now in
     let b = c.before.before.before.before.before.before.before.before.before.bytes-for.ensures in
     let wrote = c.before.before.before.before.before.before.write-buffer in
     let end = c.before.before.finish in
     let r = c.before.before.before.before.before.before.before.before.if4.false in
     done (rungs s) (bits-of s) a.out.now (all_right c.before.before.before.before.before.before.before.before.before.before.before) (omega arith) w (e ∙ sym l) end.new.0
     (finished (bits-of s) w a.out.now wrote.new.0 end.new.0 (l ∙ sym e)
-    (are-bytes a.out.now c.before.before.before.before.before.before.before.before.before.before.before.before.before.before.before.before.slice-known.given)
-    (are-bytes end.new.0 c.slice-known3.given)
+    (are_bytes a.out.now c.before.before.before.before.before.before.before.before.before.before.before.before.before.before.before.before.slice-known.given)
+    (are_bytes end.new.0 c.slice-known3.given)
     (wrote.ensures ∙ ap (λ (k : ℕ). paste (bits_of a.out.now) 0 (bits-of s) k) (sym e))
     end.ensures)
 
-pub make-buffer-spec : {M : Type 1} → statement M
-make-buffer-spec =
+pub make_buffer_spec : {M : Type 1} → statement M
+make_buffer_spec =
     tie.close
     (tie.spec
     returns

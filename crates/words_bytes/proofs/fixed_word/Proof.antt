@@ -8,11 +8,11 @@ use borrow.Author.Rules.{rules}
 use borrow.Author.Tests.{eqb-true}
 use Rattle.meaning.specs.Tables.{Table, table}
 use Rattle.meaning.specs.Bits.{bits_of}
-use Rattle.meaning.specs.Words.{isWord}
+use Rattle.meaning.specs.Words.{is_word}
 use Rattle.meaning.specs.Ladder.{makes, made, type_at}
-use Rattle.meaning.specs.WordCalls.{fromRange}
+use Rattle.meaning.specs.WordCalls.{from_range}
 use Rattle.meaning.proofs.WordWidths.{word-widths}
-use Rattle.words_laws.proofs.Ranges.{eight-times}
+use Rattle.words_laws.proofs.Ranges.{eight_times}
 use Rattle.words_bytes.proofs.fixed_word.Statement.{statement}
 use Rattle.words_bytes.proofs.fixed_word.Tie as tie
 
@@ -34,7 +34,7 @@ bytes-word-requires : tie.Need-bytes-word-requires
 bytes-word-requires c κs =
     λ h.
     ap (λ (k : ℕ). 8 * k) (eqb-true (length c.before.before.before.before.before.before.before.before.args.bytes.now) c.before.word_width.result h ∙ asked c.before)
-    ∙ eight-times c.before.before.before.before.before.before.before.before.args.n c.before.before.before.before.before.before.before.before.requires.0
+    ∙ eight_times c.before.before.before.before.before.before.before.before.args.n c.before.before.before.before.before.before.before.before.requires.0
 
 same_length : tie.Need-same-length
 same_length c = search rules
@@ -47,14 +47,14 @@ returns c =
     let given = bits_of a.bytes.now in (
       c.before.before.bytes_word.ensures.0
           ∙ ap
-          (λ (k : ℕ). makes (fromRange (of s) a.result (eqb (length a.bytes.now) k) (isWord a.n (type_at (of s) a.result))) given a.out.now)
+          (λ (k : ℕ). makes (from_range (of s) a.result (eqb (length a.bytes.now) k) (is_word a.n (type_at (of s) a.result))) given a.out.now)
           e,
       c.before.before.bytes_word.ensures.1
           ∙ ap
-          (λ (k : ℕ). made (fromRange (of s) a.result (eqb (length a.bytes.now) k) (isWord a.n (type_at (of s) a.result))) given a.out.now)
+          (λ (k : ℕ). made (from_range (of s) a.result (eqb (length a.bytes.now) k) (is_word a.n (type_at (of s) a.result))) given a.out.now)
           e,
     )
 
-pub fixed-word-spec : {M : Type 1} → statement M
-fixed-word-spec =
+pub fixed_word_spec : {M : Type 1} → statement M
+fixed_word_spec =
     tie.close (tie.spec sub-word-width word-width-requires bytes-word-requires same_length returns)

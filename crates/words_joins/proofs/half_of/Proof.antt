@@ -9,11 +9,11 @@ use borrow.Author.Rules.{rules}
 use borrow.Author.Tests.{lt-ltb, le-ltb, not-true, not-false}
 use Rattle.meaning.specs.Types.{Ty, bits}
 use Rattle.meaning.specs.Tables.{Table, table}
-use Rattle.meaning.specs.Words.{word, isWord, asWord, joins}
+use Rattle.meaning.specs.Words.{word, is_word, as_word, joins}
 use Rattle.meaning.specs.Ladder.{type_at}
-use Rattle.meaning.proofs.Tests.{and_both, and-no-right}
-use Rattle.meaning.proofs.WordWidths.{word-widths-bits}
-use Rattle.meaning.proofs.WordNames.{asWord-word}
+use Rattle.meaning.proofs.Tests.{and_both, and_no_right}
+use Rattle.meaning.proofs.WordWidths.{word_widths_bits}
+use Rattle.meaning.proofs.WordNames.{as_word_word}
 use Rattle.words_joins.proofs.half_of.Statement.{statement}
 use Rattle.words_joins.proofs.half_of.Tie as tie
 
@@ -32,13 +32,13 @@ abbrev third : tie.Start → Ty
 third s = type_at (of s) s.args.whole
 
 abbrev small : tie.Start → Bool
-small s = ltb (asWord (first s)) 31
+small s = ltb (as_word (first s)) 31
 
 abbrev alike : tie.Start → Bool
-alike s = isWord (asWord (first s)) (second s)
+alike s = is_word (as_word (first s)) (second s)
 
 abbrev next : tie.Start → Bool
-next s = isWord (suc (asWord (first s))) (third s)
+next s = is_word (suc (as_word (first s))) (third s)
 
 -- The answer, by whether the types join.
 answers : (s : tie.Start) (j : Bool) → joins (first s) (second s) (third s) ≡ j
@@ -50,16 +50,16 @@ abbrev start : tie.After-word-of → tie.Start
 start c = c.before.before.before.before.before
 
 -- Each test, as the code answers it.
-is-small : (c : tie.Else1) → small (start c.before) ≡ true
-is-small c = let e = c.before.word_of.ensures in let l = c.if1.false in lt-ltb (asWord (first (start c.before))) 31 (omega arith)
+is_small : (c : tie.Else1) → small (start c.before) ≡ true
+is_small c = let e = c.before.word_of.ensures in let l = c.if1.false in lt-ltb (as_word (first (start c.before))) 31 (omega arith)
 
-is-alike : (c : tie.After-is-word) → c.is_IsWord.result ≡ alike (start c.before.before)
-is-alike c = c.is_IsWord.ensures ∙ ap (λ (k : ℕ). isWord k (second (start c.before.before))) c.before.before.word_of.ensures
+is_alike : (c : tie.After-is-word) → c.is_IsWord.result ≡ alike (start c.before.before)
+is_alike c = c.is_IsWord.ensures ∙ ap (λ (k : ℕ). is_word k (second (start c.before.before))) c.before.before.word_of.ensures
 
-is-next : (c : tie.After-is-word2) → c.is-word2.result ≡ next (start c.before.before.before.before)
-is-next c =
+is_next : (c : tie.After-is-word2) → c.is-word2.result ≡ next (start c.before.before.before.before)
+is_next c =
     c.is-word2.ensures
-    ∙ ap (λ (k : ℕ). isWord k (third (start c.before.before.before.before))) (add-one c.before.before.before.before.word_of.result ∙ ap suc c.before.before.before.before.word_of.ensures)
+    ∙ ap (λ (k : ℕ). is_word k (third (start c.before.before.before.before))) (add-one c.before.before.before.before.word_of.result ∙ ap suc c.before.before.before.before.word_of.ensures)
 
 word-of-requires : tie.Need-word-of-requires
 word-of-requires c κs = search rules
@@ -69,7 +69,7 @@ returns c =
     let s = start c.before in
     let e = c.before.word_of.ensures in
     let l = c.if1.true in
-    answers s false (ap (λ (b : Bool). b && alike s && next s) (le-ltb (asWord (first s)) 31 (omega arith)))
+    answers s false (ap (λ (b : Bool). b && alike s && next s) (le-ltb (as_word (first s)) 31 (omega arith)))
 
 is-word-requires : tie.Need-is-word-requires
 is-word-requires c κs = search rules
@@ -79,7 +79,7 @@ returns-2 c =
     let s = start c.before.before.before in
     answers s false
     (ap (λ (b : Bool). b && next s)
-    (and-no-right (small s) (alike s) (sym (is-alike c.before) ∙ not-true c.before.is_IsWord.result c.if2.true)))
+    (and_no_right (small s) (alike s) (sym (is_alike c.before) ∙ not-true c.before.is_IsWord.result c.if2.true)))
 
 add-is-word : tie.Need-overflow-add-is-word
 add-is-word c = search rules
@@ -91,7 +91,7 @@ returns-3 : tie.Need-returns-3
 returns-3 c =
     let s = start c.before.before.before.before.before in
     answers s false
-    (and-no-right (small s && alike s) (next s) (sym (is-next c.before) ∙ not-true c.before.is-word2.result c.if3.true))
+    (and_no_right (small s && alike s) (next s) (sym (is_next c.before) ∙ not-true c.before.is-word2.result c.if3.true))
 
 word-width-requires : tie.Need-word-width-requires
 word-width-requires c κs = search rules
@@ -102,18 +102,18 @@ returns-4 c =
     let n = c.before.before.before.before.before.before.word_of.result in
     let e = c.before.before.before.before.before.before.word_of.ensures in
     let l = c.before.before.before.before.before.if1.false in
-    let low : asWord (first s) < 32 = omega arith in
+    let low : as_word (first s) < 32 = omega arith in
     c.word_width.ensures
-    ∙ word-widths-bits n (omega arith)
+    ∙ word_widths_bits n (omega arith)
     ∙ ap (λ (k : ℕ). bits (word k)) e
-    ∙ sym (ap bits (asWord-word (first s) low))
+    ∙ sym (ap bits (as_word_word (first s) low))
     ∙ answers s true
     (and_both (small s && alike s) (next s)
-    (and_both (small s) (alike s) (is-small c.before.before.before.before.before) (sym (is-alike c.before.before.before.before) ∙ not-false c.before.before.before.before.is_IsWord.result c.before.before.before.if2.false))
-    (sym (is-next c.before.before) ∙ not-false c.before.before.is-word2.result c.before.if3.false))
+    (and_both (small s) (alike s) (is_small c.before.before.before.before.before) (sym (is_alike c.before.before.before.before) ∙ not-false c.before.before.before.before.is_IsWord.result c.before.before.before.if2.false))
+    (sym (is_next c.before.before) ∙ not-false c.before.before.is-word2.result c.before.if3.false))
 
-pub half-of-spec : {M : Type 1} → statement M
-half-of-spec =
+pub half_of_spec : {M : Type 1} → statement M
+half_of_spec =
     tie.close
     (tie.spec
     word-of-requires

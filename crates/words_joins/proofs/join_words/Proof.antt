@@ -10,15 +10,15 @@ use Rattle.meaning.specs.Types.{bits}
 use Rattle.meaning.specs.Tables.{Table, table}
 use Rattle.meaning.specs.Bits.{written}
 use Rattle.meaning.specs.Words.{joins}
-use Rattle.meaning.specs.Ladder.{accepted, Rung, ladder, Record, record_of, type_at, type_of, recordBits}
-use Rattle.meaning.specs.RecordCalls.{handed, productBits}
-use Rattle.meaning.specs.WordCalls.{joinRungs}
+use Rattle.meaning.specs.Ladder.{accepted, Rung, ladder, Record, record_of, type_at, type_of, record_bits}
+use Rattle.meaning.specs.RecordCalls.{handed, product_bits}
+use Rattle.meaning.specs.WordCalls.{join_rungs}
 use Rattle.checked.specs.Passed.{Held}
-use Rattle.checked.proofs.Passes.{handed-passes}
+use Rattle.checked.proofs.Passes.{handed_passes}
 use Rattle.checked.proofs.Made.{stopped, short, done}
-use Rattle.checked.proofs.Shaped.{shape-wrong, shape-right}
-use Rattle.checked.proofs.Lent.{starts, lent-run, lent-bits, own-length}
-use Rattle.words_laws.proofs.Joins.{unjoined, joined, first_width, second-width, whole-width}
+use Rattle.checked.proofs.Shaped.{shape_wrong, shape-right}
+use Rattle.checked.proofs.Lent.{starts, lent_run, lent_bits, own_length}
+use Rattle.words_laws.proofs.Joins.{unjoined, joined, first_width, second_width, whole_width}
 use Rattle.words_joins.proofs.join_words.Statement.{statement}
 use Rattle.words_joins.proofs.join_words.Tie as tie
 
@@ -40,20 +40,20 @@ abbrev fits : tie.Start → Bool
 fits s = joins (type_of (of s) (first s)) (type_of (of s) (second s)) (type_at (of s) s.args.res)
 
 abbrev rungs : tie.Start → List Rung
-rungs s = joinRungs (of s) (first s) (second s) s.args.res
+rungs s = join_rungs (of s) (first s) (second s) s.args.res
 
 abbrev bits-of : tie.Start → List Bool
-bits-of s = productBits (of s) (first s) (second s)
+bits-of s = product_bits (of s) (first s) (second s)
 
-first-held : (s : tie.Start) → Held (of s) (first s)
-first-held s = s.requires.0
+first_held : (s : tie.Start) → Held (of s) (first s)
+first_held s = s.requires.0
 
-second-held : (s : tie.Start) → Held (of s) (second s)
-second-held s = s.requires.1.0
+second_held : (s : tie.Start) → Held (of s) (second s)
+second_held s = s.requires.1.0
 
 passed : (s : tie.Start) → ladder (before7 s) (tt {0}) ≡ accepted (tt {0})
 passed s =
-    handed-passes (of s) s.requires.1.1.sound (first s ∷ second s ∷ []) (s.args.res ∷ []) (first-held s, (second-held s, tt)) (s.requires.1.1, tt)
+    handed_passes (of s) s.requires.1.1.sound (first s ∷ second s ∷ []) (s.args.res ∷ []) (first_held s, (second_held s, tt)) (s.requires.1.1, tt)
 
 -- What the function is given, at any place past the first call.
 abbrev start : tie.After-half-of → tie.Start
@@ -78,22 +78,22 @@ widths c =
     let r = type_at (of s) s.args.res in
     let w = c.before.half_of_lem.result in
     let e = c.before.half_of_lem.ensures in
-    let all = whole-width a b r w e (joining c) in
+    let all = whole_width a b r w e (joining c) in
     let n = s.pre.1.1.narrow in
-    record { one = first_width a b r w e (joining c); two = second-width a b r w e (joining c); most = omega arith }
+    record { one = first_width a b r w e (joining c); two = second_width a b r w e (joining c); most = omega arith }
 
 all_right : (c : tie.Else1) → ladder (rungs (start c.before)) (tt {0}) ≡ accepted (tt {0})
 all_right c = let s = start c.before in shape-right (before7 s) (fits s) (passed s) (joining c)
 
-count-is : (c : tie.Else1) → length (bits-of (start c.before)) ≡ c.before.half_of_lem.result + c.before.half_of_lem.result
-count-is c =
+count_is : (c : tie.Else1) → length (bits-of (start c.before)) ≡ c.before.half_of_lem.result + c.before.half_of_lem.result
+count_is c =
     let s = start c.before in
     let w = widths c in
     let d = w.one in
     let e = w.two in
-    let a = own-length (of s) (first s) (first-held s) in
-    let b = own-length (of s) (second s) (second-held s) in
-    let l = length-append (recordBits (of s) (first s)) (recordBits (of s) (second s)) in
+    let a = own_length (of s) (first s) (first_held s) in
+    let b = own_length (of s) (second s) (second_held s) in
+    let l = length-append (record_bits (of s) (first s)) (record_bits (of s) (second s)) in
     omega arith
 
 half-of-requires : tie.Need-half-of-requires
@@ -103,7 +103,7 @@ returns : tie.Need-returns
 returns c =
     let s = start c.before in
     stopped (rungs s) (bits-of s) s.args.out.now 7 0
-    (shape-wrong (before7 s) (fits s) (passed s)
+    (shape_wrong (before7 s) (fits s) (passed s)
     (unjoined (type_of (of s) (first s)) (type_of (of s) (second s)) (type_at (of s) s.args.res) c.before.half_of_lem.result c.before.half_of_lem.ensures c.if1.true))
 
 add-whole : tie.Need-overflow-add-whole
@@ -115,32 +115,32 @@ bytes-for-requires c κs = let m = (widths c).most in omega arith
 returns-2 : tie.Need-returns-2
 returns-2 c =
     let s = start c.before.before.before in
-    let n = count-is c.before.before in
+    let n = count_is c.before.before in
     let b = c.before.bytes-for.ensures in
     let r = c.if2.true in
     short (rungs s) (bits-of s) s.args.out.now (all_right c.before.before) (omega arith)
 
 sub-write-product : tie.Need-overflow-sub-write-product
-sub-write-product c = let s = start c.before.before.before.before in starts (of s) (first s) (first-held s)
+sub-write-product c = let s = start c.before.before.before.before in starts (of s) (first s) (first_held s)
 
 part-write-product-start : tie.Need-slice-bounds-write-product-start
-part-write-product-start c = let s = start c.before.before.before.before in starts (of s) (first s) (first-held s)
+part-write-product-start c = let s = start c.before.before.before.before in starts (of s) (first s) (first_held s)
 
 part-write-product-end : tie.Need-slice-bounds-write-product-end
 part-write-product-end c = search rules
 
 sub-write-product-2 : tie.Need-overflow-sub-write-product-2
-sub-write-product-2 c = let s = start c.before.before.before.before.before in starts (of s) (second s) (second-held s)
+sub-write-product-2 c = let s = start c.before.before.before.before.before in starts (of s) (second s) (second_held s)
 
 part-write-product-start-2 : tie.Need-slice-bounds-write-product-start-2
-part-write-product-start-2 c = let s = start c.before.before.before.before.before in starts (of s) (second s) (second-held s)
+part-write-product-start-2 c = let s = start c.before.before.before.before.before in starts (of s) (second s) (second_held s)
 
 part-write-product-end-2 : tie.Need-slice-bounds-write-product-end-2
 part-write-product-end-2 c = search rules
 
 -- The other half of the whole.
-rest-is : (h : ℕ) → h + h - h ≡ h
-rest-is h = omega arith
+rest_is : (h : ℕ) → h + h - h ≡ h
+rest_is h = omega arith
 
 write-product-requires : tie.Need-write-product-requires
 write-product-requires c κs =
@@ -154,8 +154,8 @@ write-product-requires c κs =
       (
         record { inside = omega arith; counted = omega arith },
         (
-          lent-run (of s) (first s) (first-held s) h w.one,
-          lent-run (of s) (second s) (second-held s) (h + h - h) (rest-is h ∙ w.two),
+          lent_run (of s) (first s) (first_held s) h w.one,
+          lent_run (of s) (second s) (second_held s) (h + h - h) (rest_is h ∙ w.two),
         ),
       ),
     )
@@ -167,17 +167,17 @@ returns-3 : tie.Need-returns-3
 returns-3 c =
     let s = start c.before.before.before.before.before.before.before.before.before in
     let w = widths c.before.before.before.before.before.before.before.before in
-    let n = count-is c.before.before.before.before.before.before.before.before in
+    let n = count_is c.before.before.before.before.before.before.before.before in
     let b = c.before.before.before.before.before.before.before.bytes-for.ensures in
     let r = c.before.before.before.before.before.before.if2.false in
     let h = c.before.before.before.before.before.before.before.before.before.half_of_lem.result in
     done (rungs s) (bits-of s) s.args.out.now (all_right c.before.before.before.before.before.before.before.before) (omega arith) (h + h) (sym n) c.before.before.write-product.new.0
     (c.before.before.write-product.ensures
-    ∙ ap₂ (λ (p q : List Bool). written (p ++ q) s.args.out.now) (lent-bits (of s) (first s) (first-held s) h w.one)
-    (lent-bits (of s) (second s) (second-held s) (h + h - h) (rest-is h ∙ w.two)))
+    ∙ ap₂ (λ (p q : List Bool). written (p ++ q) s.args.out.now) (lent_bits (of s) (first s) (first_held s) h w.one)
+    (lent_bits (of s) (second s) (second_held s) (h + h - h) (rest_is h ∙ w.two)))
 
-pub join-words-spec : {M : Type 1} → statement M
-join-words-spec =
+pub join_words_spec : {M : Type 1} → statement M
+join_words_spec =
     tie.close
     (tie.spec
     half-of-requires

@@ -11,20 +11,20 @@ use borrow.Author.Tests.{lt-ltb, le-ltb, not-true, not-false}
 use Rattle.meaning.specs.Types.{Ty, bits}
 use Rattle.meaning.specs.Tables.{Table, table}
 use Rattle.meaning.specs.Bits.{bits_of, written}
-use Rattle.meaning.specs.Words.{isWord}
-use Rattle.meaning.specs.Codecs.{Decoded, decoded, isEarly, recordOf, consumed}
-use Rattle.meaning.specs.Ladder.{accepted, Rung, ladder, Stream, stream-of, type_at}
-use Rattle.meaning.specs.CodecCalls.{readRungs, paddedIn}
-use Rattle.meaning.specs.WordCalls.{wordReadRungs}
-use Rattle.meaning.proofs.WordWidths.{word-widths-bits}
-use Rattle.meaning.proofs.Words.{isWord-word}
-use Rattle.bits.proofs.OfBytes.{length-bitsOf}
+use Rattle.meaning.specs.Words.{is_word}
+use Rattle.meaning.specs.Codecs.{Decoded, decoded, is_early, decoded_record, consumed}
+use Rattle.meaning.specs.Ladder.{accepted, Rung, ladder, Stream, stream_of, type_at}
+use Rattle.meaning.specs.CodecCalls.{read_rungs, padded_in}
+use Rattle.meaning.specs.WordCalls.{word_read_rungs}
+use Rattle.meaning.proofs.WordWidths.{word_widths_bits}
+use Rattle.meaning.proofs.Words.{is_word_word}
+use Rattle.bits.proofs.OfBytes.{length_bits_of}
 use Rattle.bits.proofs.Runs.{length_run}
 use Rattle.checked.specs.Passed.{Streamed}
-use Rattle.checked.proofs.Passes.{stream-passes}
+use Rattle.checked.proofs.Passes.{stream_passes}
 use Rattle.checked.proofs.Read.{stopped, early, short, done}
-use Rattle.checked.proofs.Shaped.{range-missed, range-shape, range-pass}
-use Rattle.checked.proofs.Lent.{lentStream, stream-starts, padded-short, padded-run, padded-lent}
+use Rattle.checked.proofs.Shaped.{range_missed, range_shape, range_pass}
+use Rattle.checked.proofs.Lent.{lent_stream, stream_starts, padded_short, padded_run, padded_lent}
 use Rattle.words_reading.proofs.read_word.Statement.{statement}
 use Rattle.words_reading.proofs.read_word.Tie as tie
 
@@ -34,31 +34,31 @@ of s =
     table s.args.kinds.now s.args.lefts.now s.args.rights.now s.args.groups.now s.args.count
 
 abbrev source : tie.Start → Stream
-source s = stream-of s.args.bytes.now s.args.until s.args.position
+source s = stream_of s.args.bytes.now s.args.until s.args.position
 
 abbrev type : tie.Start → Ty
 type s = type_at (of s) s.args.node
 
 abbrev before6 : tie.Start → List Rung
-before6 s = readRungs (of s) (source s) s.args.node
+before6 s = read_rungs (of s) (source s) s.args.node
 
 abbrev ranges : tie.Start → Bool
 ranges s = ltb s.args.n 32
 
 abbrev fits : tie.Start → Bool
-fits s = isWord s.args.n (type s)
+fits s = is_word s.args.n (type s)
 
 abbrev rungs : tie.Start → List Rung
-rungs s = wordReadRungs (of s) (source s) s.args.n s.args.node
+rungs s = word_read_rungs (of s) (source s) s.args.n s.args.node
 
 abbrev found : tie.Start → Decoded
-found s = paddedIn (of s) (source s) s.args.node
+found s = padded_in (of s) (source s) s.args.node
 
 inside : (s : tie.Start) → Streamed (of s) (source s) s.args.node
 inside s = s.requires
 
 passed : (s : tie.Start) → ladder (before6 s) (tt {0}) ≡ accepted (tt {0})
-passed s = stream-passes (of s) (source s) s.args.node (inside s)
+passed s = stream_passes (of s) (source s) s.args.node (inside s)
 
 -- What the function is given, at any place past the first test.
 abbrev start : tie.Else1 → tie.Start
@@ -70,15 +70,15 @@ is_right c = sym c.before.is_IsWord.ensures ∙ not-false c.before.is_IsWord.res
 all_right : (c : tie.Else2) → ladder (rungs (start c.before.before)) (tt {0}) ≡ accepted (tt {0})
 all_right c =
     let s = start c.before.before in
-    range-pass (before6 s) (ranges s) (fits s) (passed s) (lt-ltb s.args.n 32 c.before.before.if1.false) (is_right c)
+    range_pass (before6 s) (ranges s) (fits s) (passed s) (lt-ltb s.args.n 32 c.before.before.if1.false) (is_right c)
 
 -- The width is the type's, and small.
 width_is : (c : tie.After-word-width) → c.word_width.result ≡ bits (type (start c.before.before.before))
 width_is c =
     let s = start c.before.before.before in
     c.word_width.ensures
-    ∙ word-widths-bits s.args.n c.before.before.before.if1.false
-    ∙ sym (ap bits (isWord-word s.args.n (type s) (is_right c.before)))
+    ∙ word_widths_bits s.args.n c.before.before.before.if1.false
+    ∙ sym (ap bits (is_word_word s.args.n (type s) (is_right c.before)))
 
 narrow : (c : tie.After-word-width) → c.word_width.result ≤ 524288
 narrow c = let e = width_is c in let p = (inside (start c.before.before.before)).named.narrow in omega arith
@@ -88,24 +88,24 @@ enough : (c : tie.Else3) → bits (type (start c.before.before.before.before)) �
 enough c = let e = width_is c.before in let r = c.if3.false in omega arith
 
 abbrev run : tie.Start → List Bool
-run s = take (bits (type s)) (drop (s.args.position % 8) (bits_of (lentStream (source s))))
+run s = take (bits (type s)) (drop (s.args.position % 8) (bits_of (lent_stream (source s))))
 
 whole : (c : tie.Else3) → found (start c.before.before.before.before) ≡ decoded (run (start c.before.before.before.before)) (bits (type (start c.before.before.before.before)))
-whole c = let s = start c.before.before.before.before in padded-lent (of s) (source s) s.args.node (inside s) (enough c)
+whole c = let s = start c.before.before.before.before in padded_lent (of s) (source s) s.args.node (inside s) (enough c)
 
-count-is : (c : tie.Else3) → length (recordOf (found (start c.before.before.before.before))) ≡ c.before.word_width.result
-count-is c =
+count_is : (c : tie.Else3) → length (decoded_record (found (start c.before.before.before.before))) ≡ c.before.word_width.result
+count_is c =
     let s = start c.before.before.before.before in
-    let i = (padded-run (of s) (source s) s.args.node (inside s) (enough c)).inside in
-    ap (λ (d : Decoded). length (recordOf d)) (whole c)
-    ∙ length_run (bits_of (lentStream (source s))) (s.args.position % 8) (bits (type s)) (omega (arith, length-bitsOf (lentStream (source s))))
+    let i = (padded_run (of s) (source s) s.args.node (inside s) (enough c)).inside in
+    ap (λ (d : Decoded). length (decoded_record d)) (whole c)
+    ∙ length_run (bits_of (lent_stream (source s))) (s.args.position % 8) (bits (type s)) (omega (arith, length_bits_of (lent_stream (source s))))
     ∙ sym (width_is c.before)
 
 returns : tie.Need-returns
 returns c =
     let s = c.before.before.before.before.before.before.before in
     stopped (rungs s) (source s) (found s) s.args.out.now 6 0
-    (range-missed (before6 s) (ranges s) (fits s) (passed s) (le-ltb s.args.n 32 c.if1.true))
+    (range_missed (before6 s) (ranges s) (fits s) (passed s) (le-ltb s.args.n 32 c.if1.true))
 
 is-word-requires : tie.Need-is-word-requires
 is-word-requires c κs = let p = (inside (start c)).named in (p.sound, p.here)
@@ -114,7 +114,7 @@ returns-2 : tie.Need-returns-2
 returns-2 c =
     let s = start c.before.before in
     stopped (rungs s) (source s) (found s) s.args.out.now 7 0
-    (range-shape (before6 s) (ranges s) (fits s) (passed s) (lt-ltb s.args.n 32 c.before.before.if1.false)
+    (range_shape (before6 s) (ranges s) (fits s) (passed s) (lt-ltb s.args.n 32 c.before.before.if1.false)
     (sym c.before.is_IsWord.ensures ∙ not-true c.before.is_IsWord.result c.if2.true))
 
 word-width-requires : tie.Need-word-width-requires
@@ -129,7 +129,7 @@ returns-3 c =
     let e = width_is c.before in
     let r = c.if3.true in
     early (rungs s) (source s) (found s) s.args.out.now (all_right c.before.before)
-    (ap isEarly (padded-short (of s) (source s) s.args.node (inside s) (omega arith)))
+    (ap is_early (padded_short (of s) (source s) s.args.node (inside s) (omega arith)))
 
 bytes-for-requires : tie.Need-bytes-for-requires
 bytes-for-requires c κs = let m = narrow c.before in omega arith
@@ -137,16 +137,16 @@ bytes-for-requires c κs = let m = narrow c.before in omega arith
 returns-4 : tie.Need-returns-4
 returns-4 c =
     let s = start c.before.before.before.before.before.before in
-    let n = count-is c.before.before in
+    let n = count_is c.before.before in
     let b = c.before.bytes-for.ensures in
     let r = c.if4.true in
-    short (rungs s) (source s) (found s) s.args.out.now (all_right c.before.before.before.before) (ap isEarly (whole c.before.before)) (omega arith)
+    short (rungs s) (source s) (found s) s.args.out.now (all_right c.before.before.before.before) (ap is_early (whole c.before.before)) (omega arith)
 
 sub-write-run : tie.Need-overflow-sub-write-run
-sub-write-run c = let s = start c.before.before.before.before.before.before.before in stream-starts (of s) (source s) s.args.node (inside s)
+sub-write-run c = let s = start c.before.before.before.before.before.before.before in stream_starts (of s) (source s) s.args.node (inside s)
 
 part-write-run-start : tie.Need-slice-bounds-write-run-start
-part-write-run-start c = let s = start c.before.before.before.before.before.before.before in stream-starts (of s) (source s) s.args.node (inside s)
+part-write-run-start c = let s = start c.before.before.before.before.before.before.before in stream_starts (of s) (source s) s.args.node (inside s)
 
 part-write-run-end : tie.Need-slice-bounds-write-run-end
 part-write-run-end c = search rules
@@ -158,7 +158,7 @@ write-run-requires c κs =
     let m = narrow c.before.before.before.before.before in
     let b = c.before.before.before.bytes-for.ensures in
     let o = c.before.before.if4.false in
-    let l = padded-run (of s) (source s) s.args.node (inside s) (enough c.before.before.before.before) in
+    let l = padded_run (of s) (source s) s.args.node (inside s) (enough c.before.before.before.before) in
     let i = l.inside in
     let k = l.counted in
     (record { inside = omega arith; counted = omega arith }, record { inside = omega arith; counted = omega arith })
@@ -177,20 +177,20 @@ same_length c = search rules
 returns-5 : tie.Need-returns-5
 returns-5 c =
     let s = start c.before.before.before.before.before.before.before.before.before.before.before in
-    let n = count-is c.before.before.before.before.before.before.before in
+    let n = count_is c.before.before.before.before.before.before.before in
     let e = width_is c.before.before.before.before.before.before.before.before in
     let b = c.before.before.before.before.before.before.bytes-for.ensures in
     let r = c.before.before.before.before.before.if4.false in
     let w = c.before.before.before.before.before.before.before.before.word_width.result in
-    done (rungs s) (source s) (found s) s.args.out.now (all_right c.before.before.before.before.before.before.before.before.before) (ap isEarly (whole c.before.before.before.before.before.before.before)) (omega arith) (s.args.position + w)
+    done (rungs s) (source s) (found s) s.args.out.now (all_right c.before.before.before.before.before.before.before.before.before) (ap is_early (whole c.before.before.before.before.before.before.before)) (omega arith) (s.args.position + w)
     (ap (λ (k : ℕ). s.args.position + k) (e ∙ sym (ap consumed (whole c.before.before.before.before.before.before.before))))
     c.before.before.write-run.new.0
     (c.before.before.write-run.ensures
-    ∙ ap (λ (k : ℕ). written (take k (drop (s.args.position % 8) (bits_of (lentStream (source s))))) s.args.out.now) e
-    ∙ ap (λ (d : Decoded). written (recordOf d) s.args.out.now) (sym (whole c.before.before.before.before.before.before.before)))
+    ∙ ap (λ (k : ℕ). written (take k (drop (s.args.position % 8) (bits_of (lent_stream (source s))))) s.args.out.now) e
+    ∙ ap (λ (d : Decoded). written (decoded_record d) s.args.out.now) (sym (whole c.before.before.before.before.before.before.before)))
 
-pub read-word-spec : {M : Type 1} → statement M
-read-word-spec =
+pub read_word_spec : {M : Type 1} → statement M
+read_word_spec =
     tie.close
     (tie.spec
     returns

@@ -10,11 +10,11 @@ use lib.Seq.{paste, paste-zero}
 use borrow.Author.Rules.{rules}
 use Rattle.meaning.specs.Types.{bits}
 use Rattle.meaning.specs.Bits.{bits_of}
-use Rattle.meaning.specs.Words.{segmentBits, buffer, bufferBits}
+use Rattle.meaning.specs.Words.{segment_bits, buffer, buffer_bits}
 use Rattle.meaning.proofs.WordWidths.{word-widths}
 use Rattle.bits.proofs.OfBytes.{tail}
-use Rattle.words_laws.specs.Segments.{heldBy}
-use Rattle.words_laws.proofs.Parts.{segments, held-most, buffer-small, parts-begin, part_room, part-next, part-paste, parts-end}
+use Rattle.words_laws.specs.Segments.{held_by}
+use Rattle.words_laws.proofs.Parts.{segments, held_most, buffer_small, parts_begin, part_room, part_next, part_paste, parts_end}
 use Rattle.words_segments.proofs.write_buffer.Statement.{statement}
 use Rattle.words_segments.proofs.write_buffer.Tie as tie
 
@@ -24,8 +24,8 @@ invariant-loop out₀ n held at₀ done₀ i₀ i-end out at done i =
     × (i ≤ n + 1)
     × (done ≤ length held)
     × (at ≤ bits (buffer n))
-    × (drop at (bufferBits n held) ≡ segments (n + 1 - i) (drop done held))
-    × (bits_of out ≡ paste (bits_of out₀) 0 (bufferBits n held) at)
+    × (drop at (buffer_bits n held) ≡ segments (n + 1 - i) (drop done held))
+    × (bits_of out ≡ paste (bits_of out₀) 0 (buffer_bits n held) at)
 
 abbrev decreases-loop : tie.decreases-loop
 decreases-loop out₀ n held at₀ done₀ i₀ i-end out at done i = n + 1 - i
@@ -37,7 +37,7 @@ now-at c = c.before.before.before.before.args.n - c.before.loop.i
 abbrev data-left : tie.In-loop invariant-loop decreases-loop → List ℕ
 data-left c = drop c.before.loop.done c.before.before.before.before.args.held.now
 
-left : (c : tie.In-loop invariant-loop decreases-loop) → drop c.before.loop.at (bufferBits c.before.before.before.before.args.n c.before.before.before.before.args.held.now) ≡ segments (suc (now-at c)) (data-left c)
+left : (c : tie.In-loop invariant-loop decreases-loop) → drop c.before.loop.at (buffer_bits c.before.before.before.before.args.n c.before.before.before.before.args.held.now) ≡ segments (suc (now-at c)) (data-left c)
 left c =
     let one : c.before.before.before.before.args.n + 1 - c.before.loop.i ≡ suc (now-at c) = omega arith in
     c.before.loop.invariant.4 ∙ ap (λ (k : ℕ). segments k (data-left c)) one
@@ -50,14 +50,14 @@ handed : (c : tie.After-write-segment invariant-loop decreases-loop)
     → take (length c.before.before.before.before.before.before.before.args.held.now - c.before.before.before.before.loop.done) (data-left c.before.before.before) ≡ data-left c.before.before.before
 handed c = tail c.before.before.before.before.loop.done c.before.before.before.before.before.before.before.args.held.now
 
-holds : (c : tie.After-write-segment invariant-loop decreases-loop) → c.write-segment.result ≡ heldBy (now-at c.before.before.before) (data-left c.before.before.before)
-holds c = c.write-segment.ensures.0 ∙ ap (heldBy (now-at c.before.before.before)) (handed c)
+holds : (c : tie.After-write-segment invariant-loop decreases-loop) → c.write-segment.result ≡ held_by (now-at c.before.before.before) (data-left c.before.before.before)
+holds c = c.write-segment.ensures.0 ∙ ap (held_by (now-at c.before.before.before)) (handed c)
 
 most : (c : tie.After-write-segment invariant-loop decreases-loop) → c.before.before.before.before.loop.done + c.write-segment.result ≤ length c.before.before.before.before.before.before.before.args.held.now
 most c =
     let d = c.before.before.before.before.loop.invariant.2 in
     let h = holds c in
-    let m = held-most (now-at c.before.before.before) (data-left c.before.before.before) in
+    let m = held_most (now-at c.before.before.before) (data-left c.before.before.before) in
     let l = length-drop c.before.before.before.before.loop.done c.before.before.before.before.before.before.before.args.held.now in
     omega arith
 
@@ -67,7 +67,7 @@ size c = let n : c.before.before.before.before.before.before.before.before.befor
 -- The end of the segment, within the buffer and within 65,541 bits.
 ends : (c : tie.After-word-width invariant-loop decreases-loop)
     → (c.before.before.before.before.before.before.before.loop.at + (1 + 8 * c.word_width.result) ≤ bits (buffer c.before.before.before.before.before.before.before.before.before.before.args.n)) × (bits (buffer c.before.before.before.before.before.before.before.before.before.before.args.n) ≤ 65541)
-ends c = let e = size c in let f = fits c.before.before.before.before.before.before in (omega arith, buffer-small c.before.before.before.before.before.before.before.before.before.before.args.n c.before.before.before.before.before.before.before.before.before.before.requires.0)
+ends c = let e = size c in let f = fits c.before.before.before.before.before.before in (omega arith, buffer_small c.before.before.before.before.before.before.before.before.before.before.args.n c.before.before.before.before.before.before.before.before.before.before.requires.0)
 
 add-i-end : tie.Need-overflow-add-i-end invariant-loop decreases-loop
 add-i-end c = search rules
@@ -80,8 +80,8 @@ loop-holds c =
       omega arith,
       omega arith,
       omega arith,
-      parts-begin a.n a.held.now ∙ ap (λ (k : ℕ). segments k a.held.now) all,
-      paste-zero (bits_of a.out.now) 0 (bufferBits a.n a.held.now),
+      parts_begin a.n a.held.now ∙ ap (λ (k : ℕ). segments k a.held.now) all,
+      paste-zero (bits_of a.out.now) 0 (buffer_bits a.n a.held.now),
     )
 
 sub-k : tie.Need-overflow-sub-k invariant-loop decreases-loop
@@ -100,7 +100,7 @@ write-segment-requires : tie.Need-write-segment-requires invariant-loop decrease
 write-segment-requires c κs =
     let l = c.before.before.before.loop in
     let f = fits c.before.before in
-    let b = buffer-small c.before.before.before.before.before.before.args.n c.before.before.before.before.before.before.requires.0 in
+    let b = buffer_small c.before.before.before.before.before.before.args.n c.before.before.before.before.before.before.requires.0 in
     let n = c.before.before.before.before.before.before.requires.0 in
     let r = c.before.before.before.before.before.before.requires.1.inside in
     (omega arith, (omega arith, record { inside = omega arith; counted = omega arith }))
@@ -140,13 +140,13 @@ loop-again c =
       omega arith,
       most c.before.before.before,
       (ends c).0,
-      ap (λ (z : ℕ). drop (l.at + (1 + 8 * z)) (bufferBits n a.held.now)) e
-          ∙ part-next n k l.at l.done a.held.now l.invariant.3 (left c.before.before.before.before.before.before)
+      ap (λ (z : ℕ). drop (l.at + (1 + 8 * z)) (buffer_bits n a.held.now)) e
+          ∙ part_next n k l.at l.done a.held.now l.invariant.3 (left c.before.before.before.before.before.before)
           ∙ ap₂ (λ (j z : ℕ). segments j (drop (l.done + z) a.held.now)) below (sym (holds c.before.before.before)),
       wrote.ensures.1
-          ∙ ap₂ (λ (v : List Bool) (z : List ℕ). paste v l.at (segmentBits k z) (1 + 8 * 2 ^ k)) l.invariant.5 (handed c.before.before.before)
-          ∙ part-paste n k l.at l.done a.held.now l.invariant.3 (left c.before.before.before.before.before.before) (bits_of a.out.now)
-          ∙ ap (λ (z : ℕ). paste (bits_of a.out.now) 0 (bufferBits n a.held.now) (l.at + (1 + 8 * z))) (sym e),
+          ∙ ap₂ (λ (v : List Bool) (z : List ℕ). paste v l.at (segment_bits k z) (1 + 8 * 2 ^ k)) l.invariant.5 (handed c.before.before.before)
+          ∙ part_paste n k l.at l.done a.held.now l.invariant.3 (left c.before.before.before.before.before.before) (bits_of a.out.now)
+          ∙ ap (λ (z : ℕ). paste (bits_of a.out.now) 0 (buffer_bits n a.held.now) (l.at + (1 + 8 * z))) (sym e),
     )
 
 same_length : tie.Need-same-length invariant-loop decreases-loop
@@ -159,12 +159,12 @@ returns c =
     let t = c.loop-test.false in
     let none : a.n + 1 - l.i ≡ 0 = omega arith in
     let end : l.at ≡ bits (buffer a.n) =
-    parts-end a.n l.at l.done a.held.now l.invariant.3
+    parts_end a.n l.at l.done a.held.now l.invariant.3
     (l.invariant.4 ∙ ap (λ (k : ℕ). segments k (drop l.done a.held.now)) none) in
-    l.invariant.5 ∙ ap (paste (bits_of a.out.now) 0 (bufferBits a.n a.held.now)) end
+    l.invariant.5 ∙ ap (paste (bits_of a.out.now) 0 (buffer_bits a.n a.held.now)) end
 
-pub write-buffer-spec : {M : Type 1} → statement M
-write-buffer-spec =
+pub write_buffer_spec : {M : Type 1} → statement M
+write_buffer_spec =
     tie.close
     (tie.spec
     invariant-loop

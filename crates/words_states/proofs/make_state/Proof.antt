@@ -9,13 +9,13 @@ use borrow.Author.Rules.{rules}
 use borrow.Author.Tests.{le-leb, lt-leb, not-true, not-false}
 use Rattle.meaning.specs.Types.{same}
 use Rattle.meaning.specs.Tables.{Table, table}
-use Rattle.meaning.specs.Words.{ctx8, ctx8Bits}
+use Rattle.meaning.specs.Words.{ctx8, ctx8_bits}
 use Rattle.meaning.specs.Ladder.{accepted, Rung, ladder, named, type_at}
-use Rattle.meaning.specs.WordCalls.{ctx8Rungs}
-use Rattle.checked.proofs.Passes.{named-passes}
+use Rattle.meaning.specs.WordCalls.{ctx8_rungs}
+use Rattle.checked.proofs.Passes.{named_passes}
 use Rattle.checked.proofs.Made.{stopped, short, done}
-use Rattle.checked.proofs.Shaped.{range-missed, range-shape, range-pass}
-use Rattle.words_laws.proofs.Hashed.{length-state}
+use Rattle.checked.proofs.Shaped.{range_missed, range_shape, range_pass}
+use Rattle.words_laws.proofs.Hashed.{length_state}
 use Rattle.words_states.specs.State.{state_of}
 use Rattle.words_states.proofs.make_state.Statement.{statement}
 use Rattle.words_states.proofs.make_state.Tie as tie
@@ -35,17 +35,17 @@ abbrev fits : tie.Start → Bool
 fits s = same (type_at (of s) s.args.res) ctx8
 
 abbrev rungs : tie.Start → List Rung
-rungs s = ctx8Rungs (of s) (state_of s.args.state) s.args.res
+rungs s = ctx8_rungs (of s) (state_of s.args.state) s.args.res
 
 abbrev bits-of : tie.Start → List Bool
-bits-of s = ctx8Bits (state_of s.args.state)
+bits-of s = ctx8_bits (state_of s.args.state)
 
 -- How many bits that is: the midstate's length is its type's.
 many : (s : tie.Start) → length (bits-of s) ≡ 830
-many s = let full : length s.args.state.midstate ≡ 32 = search rules in length-state (state_of s.args.state) full
+many s = let full : length s.args.state.midstate ≡ 32 = search rules in length_state (state_of s.args.state) full
 
 passed : (s : tie.Start) → ladder (before6 s) (tt {0}) ≡ accepted (tt {0})
-passed s = named-passes (of s) s.requires.sound (s.args.res ∷ []) (s.requires, tt)
+passed s = named_passes (of s) s.requires.sound (s.args.res ∷ []) (s.requires, tt)
 
 -- What the function is given, at any place past the first test.
 abbrev start : tie.Else1 → tie.Start
@@ -54,14 +54,14 @@ start c = c.before.before.before.before.before.before
 all_right : (c : tie.Else2) → ladder (rungs (start c.before.before)) (tt {0}) ≡ accepted (tt {0})
 all_right c =
     let s = start c.before.before in
-    range-pass (before6 s) (ranges s) (fits s) (passed s) (le-leb s.args.state.used 63 c.before.before.if1.false)
+    range_pass (before6 s) (ranges s) (fits s) (passed s) (le-leb s.args.state.used 63 c.before.before.if1.false)
     (sym c.before.is-ctx8.ensures ∙ not-false c.before.is-ctx8.result c.if2.false)
 
 returns : tie.Need-returns
 returns c =
     let s = c.before.before.before.before.before.before in
     stopped (rungs s) (bits-of s) s.args.out.now 6 0
-    (range-missed (before6 s) (ranges s) (fits s) (passed s) (lt-leb s.args.state.used 63 c.if1.true))
+    (range_missed (before6 s) (ranges s) (fits s) (passed s) (lt-leb s.args.state.used 63 c.if1.true))
 
 is-ctx8-requires : tie.Need-is-ctx8-requires
 is-ctx8-requires c κs = let s = start c in (s.pre.sound, s.pre.here)
@@ -70,7 +70,7 @@ returns-2 : tie.Need-returns-2
 returns-2 c =
     let s = start c.before.before in
     stopped (rungs s) (bits-of s) s.args.out.now 7 0
-    (range-shape (before6 s) (ranges s) (fits s) (passed s) (le-leb s.args.state.used 63 c.before.before.if1.false)
+    (range_shape (before6 s) (ranges s) (fits s) (passed s) (le-leb s.args.state.used 63 c.before.before.if1.false)
     (sym c.before.is-ctx8.ensures ∙ not-true c.before.is-ctx8.result c.if2.true))
 
 returns-3 : tie.Need-returns-3
@@ -94,8 +94,8 @@ returns-4 c =
     done (rungs s) (bits-of s) s.args.out.now (all_right c.before.before.before.before.before) (omega arith) 830 (sym l) c.before.before.write-state.new.0
     c.before.before.write-state.ensures
 
-pub make-state-spec : {M : Type 1} → statement M
-make-state-spec =
+pub make_state_spec : {M : Type 1} → statement M
+make_state_spec =
     tie.close
     (tie.spec
     returns

@@ -8,12 +8,12 @@ use lib.ListN.{length, take, length-take}
 use lib.Seq.{paste}
 use borrow.Author.Rules.{rules}
 use Rattle.meaning.specs.Bits.{bits_of, to_bits}
-use Rattle.meaning.specs.Words.{bufferBits, ctx8Bits}
-use Rattle.meaning.proofs.Buffers.{buffer-five}
-use Rattle.bits.proofs.OfBytes.{are-bytes}
+use Rattle.meaning.specs.Words.{buffer_bits, ctx8_bits}
+use Rattle.meaning.proofs.Buffers.{buffer_five}
+use Rattle.bits.proofs.OfBytes.{are_bytes}
 use Rattle.bits.proofs.Packed.{finished}
 use Rattle.words_states.specs.State.{state_of}
-use Rattle.words_laws.proofs.Hashed.{length-state, state-whole}
+use Rattle.words_laws.proofs.Hashed.{length_state, state_whole}
 use Rattle.words_states.proofs.write_state.Statement.{statement}
 use Rattle.words_states.proofs.write_state.Tie as tie
 
@@ -36,7 +36,7 @@ slice-aggregate-write-buffer c =
 
 write-buffer-requires : tie.Need-write-buffer-requires
 write-buffer-requires c κs =
-    let w = buffer-five in let r = c.before.before.before.before.requires.1 in (omega arith, record { inside = omega arith; counted = omega arith })
+    let w = buffer_five in let r = c.before.before.before.before.requires.1 in (omega arith, record { inside = omega arith; counted = omega arith })
 
 put-number-requires : tie.Need-put-number-requires
 put-number-requires c κs = search rules
@@ -65,25 +65,25 @@ returns c =
     let state = state_of a.state in
     let f = full s in
     let old = bits_of a.out.now in
-    let held = bufferBits 5 (take a.state.used a.state.buffer) in
+    let held = buffer_bits 5 (take a.state.used a.state.buffer) in
     let wrote = c.before.before.before.before.before.before.before.before.before.before.before.before.before.before.before.before.write-buffer in
     let put = c.before.before.before.before.before.before.before.before.before.before.before.before.put-number in
     let copied = c.before.before.before.before.before.before.copy-bits in
     let done = c.before.before.finish in
-    finished (ctx8Bits state) 830 a.out.now copied.new.1.1.0 done.new.0
-    (length-state state f)
-    (are-bytes a.out.now c.before.before.before.before.before.before.before.before.before.before.before.before.before.before.before.before.before.before.before.before.slice-known.given)
-    (are-bytes done.new.0 c.slice-known5.given)
+    finished (ctx8_bits state) 830 a.out.now copied.new.1.1.0 done.new.0
+    (length_state state f)
+    (are_bytes a.out.now c.before.before.before.before.before.before.before.before.before.before.before.before.before.before.before.before.before.before.before.before.slice-known.given)
+    (are_bytes done.new.0 c.slice-known5.given)
     (copied.ensures
     ∙ ap (λ (v : List Bool). paste v 574 (bits_of a.state.midstate) 256)
     (put.ensures
     ∙ ap (λ (v : List Bool). paste v 510 (to_bits 64 a.state.count) 64)
-    (wrote.ensures ∙ ap (λ (w : ℕ). paste old 0 held w) buffer-five))
-    ∙ state-whole state f old)
+    (wrote.ensures ∙ ap (λ (w : ℕ). paste old 0 held w) buffer_five))
+    ∙ state_whole state f old)
     done.ensures
 
-pub write-state-spec : {M : Type 1} → statement M
-write-state-spec =
+pub write_state_spec : {M : Type 1} → statement M
+write_state_spec =
     tie.close
     (tie.spec
     array-share-prefix-buffer

@@ -8,16 +8,16 @@ use borrow.Author.Rules.{rules}
 use lib.ListN.{length, drop}
 use Rattle.meaning.specs.Tables.{Table, table, ty_at}
 use Rattle.meaning.specs.Bits.{bits_of, written}
-use Rattle.meaning.specs.Codecs.{Decoded, decoded, decodeCompact, isEarly, recordOf, consumed}
-use Rattle.meaning.specs.Ladder.{accepted, Rung, ladder, Stream, stream-of, rest_of}
-use Rattle.meaning.specs.CodecCalls.{readRungs, compactIn}
+use Rattle.meaning.specs.Codecs.{Decoded, decoded, decode_compact, is_early, decoded_record, consumed}
+use Rattle.meaning.specs.Ladder.{accepted, Rung, ladder, Stream, stream_of, rest_of}
+use Rattle.meaning.specs.CodecCalls.{read_rungs, compact_in}
 use Rattle.answers.specs.Verdicts.{done_of}
-use Rattle.laws.proofs.CodecRoundTrips.{CompactRead, compact-read-write}
+use Rattle.laws.proofs.CodecRoundTrips.{CompactRead, compact_read_write}
 use Rattle.checked.specs.Passed.{Streamed}
-use Rattle.checked.proofs.Passed.{stream-passed}
+use Rattle.checked.proofs.Passed.{stream_passed}
 use Rattle.checked.proofs.Read.{stopped, early, short, done}
-use Rattle.checked.proofs.Lent.{lentStream, stream-starts, stream-inside, stream-rest, rest-length}
-use Rattle.codec.proofs.Lent.{stream-same}
+use Rattle.checked.proofs.Lent.{lent_stream, stream_starts, stream_inside, stream_rest, rest_length}
+use Rattle.codec.proofs.Lent.{stream_same}
 use Rattle.codec_laws.proofs.Readings.{whole}
 use Rattle.codec.proofs.codecs.from_compact_bits.Statement.{statement}
 use Rattle.codec.proofs.codecs.from_compact_bits.Tie as tie
@@ -33,20 +33,20 @@ module _ (c : tie.After-stream) where
       table a.kinds.now a.lefts.now a.rights.now a.groups.now a.count
 
   abbrev stream : Stream
-  stream = stream-of start.args.bytes.now start.args.until start.args.position
+  stream = stream_of start.args.bytes.now start.args.until start.args.position
 
   -- What is lent on.
   abbrev src : List ℕ
-  src = lentStream stream
+  src = lent_stream stream
 
   abbrev at : ℕ
   at = start.args.position % 8
 
   abbrev rungs : List Rung
-  rungs = readRungs of stream start.args.node
+  rungs = read_rungs of stream start.args.node
 
   abbrev read : Decoded
-  read = compactIn of stream start.args.node
+  read = compact_in of stream start.args.node
 
 stream-requires : tie.Need-stream-requires
 stream-requires c κs = search rules
@@ -71,13 +71,13 @@ module _ (c : tie.After-enum-told) where
   passed = sym (ap done_of (sym c.enum_told.given.1) ∙ asked.stream.ensures)
 
   checked : Streamed (of asked) (stream asked) (start asked).args.node
-  checked = stream-passed (of asked) (stream asked) (start asked).args.node passed
+  checked = stream_passed (of asked) (stream asked) (start asked).args.node passed
 
   inside : at asked + ((start asked).args.until - (start asked).args.position) ≤ 8 * length (src asked)
-  inside = stream-inside (of asked) (stream asked) (start asked).args.node checked
+  inside = stream_inside (of asked) (stream asked) (start asked).args.node checked
 
 sub-src : tie.Need-overflow-sub-src
-sub-src c = let g = asked c in stream-starts (of g) (stream g) (start g).args.node (checked c)
+sub-src c = let g = asked c in stream_starts (of g) (stream g) (start g).args.node (checked c)
 
 part-src-start : tie.Need-slice-bounds-src-start
 part-src-start c = sub-src c
@@ -102,10 +102,10 @@ module _ (c : tie.After-ends-early) where
   abbrev call : tie.After-stream
   call = asked entered
 
-  verdict : c.ends-early.result ≡ isEarly (read call)
+  verdict : c.ends-early.result ≡ is_early (read call)
   verdict =
       c.ends-early.ensures
-      ∙ ap (λ (v : List Bool). isEarly (decodeCompact (ty_at (of call).columns (start call).args.node) v)) (stream-rest (of call) (stream call) (start call).args.node (checked entered))
+      ∙ ap (λ (v : List Bool). is_early (decode_compact (ty_at (of call).columns (start call).args.node) v)) (stream_rest (of call) (stream call) (start call).args.node (checked entered))
 
 returns-2 : tie.Need-returns-2
 returns-2 c =
@@ -118,27 +118,27 @@ module _ (c : tie.Else1) where
   abbrev judged : tie.After-ends-early
   judged = c.before
 
-  not-early : isEarly (read (call judged)) ≡ false
-  not-early = sym (verdict judged) ∙ c.if1.false
+  not_early : is_early (read (call judged)) ≡ false
+  not_early = sym (verdict judged) ∙ c.if1.false
 
   found :
-      CompactRead (ty_at (of (call judged)).columns (start (call judged)).args.node) (rest_of (stream (call judged))) (recordOf (read (call judged)))
+      CompactRead (ty_at (of (call judged)).columns (start (call judged)).args.node) (rest_of (stream (call judged))) (decoded_record (read (call judged)))
       (consumed (read (call judged)))
   found =
       let g = call judged in
-      compact-read-write (ty_at (of g).columns (start g).args.node) (rest_of (stream g)) (recordOf (read g)) (consumed (read g)) (whole not-early)
+      compact_read_write (ty_at (of g).columns (start g).args.node) (rest_of (stream g)) (decoded_record (read g)) (consumed (read g)) (whole not_early)
 
   -- The same reading, of the bytes lent.
   abbrev again : Decoded
-  again = decodeCompact (ty_at (of (call judged)).columns (start (call judged)).args.node) (drop (at (call judged)) (bits_of (src (call judged))))
+  again = decode_compact (ty_at (of (call judged)).columns (start (call judged)).args.node) (drop (at (call judged)) (bits_of (src (call judged))))
 
-  same : again ≡ decoded (recordOf (read (call judged))) (consumed (read (call judged)))
-  same = let g = call judged in stream-same (of g) (stream g) (start g).args.node (checked (entered judged)) (whole not-early)
+  same : again ≡ decoded (decoded_record (read (call judged))) (consumed (read (call judged)))
+  same = let g = call judged in stream_same (of g) (stream g) (start g).args.node (checked (entered judged)) (whole not_early)
 
   within : consumed again ≤ (start (call judged)).args.until - (start (call judged)).args.position
   within =
       let g = call judged in
-      omega (arith, ap consumed same, found.enough, rest-length (of g) (stream g) (start g).args.node (checked (entered judged)))
+      omega (arith, ap consumed same, found.enough, rest_length (of g) (stream g) (start g).args.node (checked (entered judged)))
 
 width-of-requires : tie.Need-width-of-requires
 width-of-requires c κs = (checked (entered (judged c))).named
@@ -148,8 +148,8 @@ module _ (c : tie.After-width-of) where
   abbrev sized : tie.Else1
   sized = c.before
 
-  record-wide : length (recordOf (read (call (judged sized)))) ≡ c.width_of_lem.result
-  record-wide = (found sized).as_wide ∙ sym c.width_of_lem.ensures
+  record_wide : length (decoded_record (read (call (judged sized)))) ≡ c.width_of_lem.result
+  record_wide = (found sized).as_wide ∙ sym c.width_of_lem.ensures
 
   narrow : c.width_of_lem.result ≤ 524288
   narrow = omega (arith, c.width_of_lem.ensures, (checked (entered (judged sized))).named.narrow)
@@ -162,8 +162,8 @@ returns-3 c =
     let b = c.before in
     let n = sized b.before in
     let g = call (judged n) in
-    short (rungs g) (stream g) (read g) (start g).args.out.now (passed (entered (judged n))) (not-early n)
-    (omega (arith, c.if2.true, b.bytes-for.ensures, record-wide b.before))
+    short (rungs g) (stream g) (read g) (start g).args.out.now (passed (entered (judged n))) (not_early n)
+    (omega (arith, c.if2.true, b.bytes-for.ensures, record_wide b.before))
 
 read-record-requires : tie.Need-read-record-requires
 read-record-requires c κs =
@@ -174,7 +174,7 @@ read-record-requires c κs =
     let s = checked (entered (judged n)) in (
       s.named,
       (
-        ap isEarly (same n),
+        ap is_early (same n),
         (
           record {
             inside = omega (arith, within n, inside (entered (judged n)));
@@ -214,15 +214,15 @@ returns-4 c =
     let n = sized w in
     let g = call (judged n) in
     let out = (start g).args.out.now in
-    done (rungs g) (stream g) (read g) out (passed (entered (judged n))) (not-early n)
-    (omega (arith, (got c).before.before.if2.false, (roomy c).bytes-for.ensures, record-wide w))
+    done (rungs g) (stream g) (read g) out (passed (entered (judged n))) (not_early n)
+    (omega (arith, (got c).before.before.if2.false, (roomy c).bytes-for.ensures, record_wide w))
     _
     (omega (arith, (got c).read-record.ensures.0, ap consumed (same n)))
     _
-    ((got c).read-record.ensures.1 ∙ ap (λ (d : Decoded). written (recordOf d) out) (same n))
+    ((got c).read-record.ensures.1 ∙ ap (λ (d : Decoded). written (decoded_record d) out) (same n))
 
-pub from-compact-bits-spec : {M : Type 1} → statement M
-from-compact-bits-spec =
+pub from_compact_bits_spec : {M : Type 1} → statement M
+from_compact_bits_spec =
     tie.close
     (tie.spec
     stream-requires

@@ -10,16 +10,16 @@ use lib.Seq.{length-take-le}
 use Rattle.meaning.specs.Types.{bits}
 use Rattle.meaning.specs.Tables.{Table, table, ty_at}
 use Rattle.meaning.specs.Bits.{bits_of, written}
-use Rattle.meaning.specs.Codecs.{Decoded, decoded, isEarly, recordOf, consumed}
-use Rattle.meaning.specs.Ladder.{accepted, Rung, ladder, Stream, stream-of}
-use Rattle.meaning.specs.CodecCalls.{readRungs, paddedIn}
+use Rattle.meaning.specs.Codecs.{Decoded, decoded, is_early, decoded_record, consumed}
+use Rattle.meaning.specs.Ladder.{accepted, Rung, ladder, Stream, stream_of}
+use Rattle.meaning.specs.CodecCalls.{read_rungs, padded_in}
 use Rattle.answers.specs.Verdicts.{done_of}
 use Rattle.bits.specs.Runs.{Run}
-use Rattle.bits.proofs.OfBytes.{length-bitsOf}
+use Rattle.bits.proofs.OfBytes.{length_bits_of}
 use Rattle.checked.specs.Passed.{Streamed}
-use Rattle.checked.proofs.Passed.{stream-passed}
+use Rattle.checked.proofs.Passed.{stream_passed}
 use Rattle.checked.proofs.Read.{stopped, early, short, done}
-use Rattle.checked.proofs.Lent.{lentStream, stream-starts, padded-short, padded-run, padded-lent}
+use Rattle.checked.proofs.Lent.{lent_stream, stream_starts, padded_short, padded_run, padded_lent}
 use Rattle.codec.proofs.codecs.from_padded_bits.Statement.{statement}
 use Rattle.codec.proofs.codecs.from_padded_bits.Tie as tie
 
@@ -34,20 +34,20 @@ module _ (c : tie.After-stream) where
       table a.kinds.now a.lefts.now a.rights.now a.groups.now a.count
 
   abbrev stream : Stream
-  stream = stream-of start.args.bytes.now start.args.until start.args.position
+  stream = stream_of start.args.bytes.now start.args.until start.args.position
 
   -- What is lent on.
   abbrev src : List ℕ
-  src = lentStream stream
+  src = lent_stream stream
 
   abbrev at : ℕ
   at = start.args.position % 8
 
   abbrev rungs : List Rung
-  rungs = readRungs of stream start.args.node
+  rungs = read_rungs of stream start.args.node
 
   abbrev read : Decoded
-  read = paddedIn of stream start.args.node
+  read = padded_in of stream start.args.node
 
 stream-requires : tie.Need-stream-requires
 stream-requires c κs = search rules
@@ -72,10 +72,10 @@ module _ (c : tie.After-enum-told) where
   passed = sym (ap done_of (sym c.enum_told.given.1) ∙ asked.stream.ensures)
 
   checked : Streamed (of asked) (stream asked) (start asked).args.node
-  checked = stream-passed (of asked) (stream asked) (start asked).args.node passed
+  checked = stream_passed (of asked) (stream asked) (start asked).args.node passed
 
 sub-src : tie.Need-overflow-sub-src
-sub-src c = let g = asked c in stream-starts (of g) (stream g) (start g).args.node (checked c)
+sub-src c = let g = asked c in stream_starts (of g) (stream g) (start g).args.node (checked c)
 
 part-src-start : tie.Need-slice-bounds-src-start
 part-src-start c = sub-src c
@@ -105,8 +105,8 @@ returns-2 c =
     let w = c.before in
     let g = call w in
     early (rungs g) (stream g) (read g) (start g).args.out.now (passed (entered w))
-    (ap isEarly
-    (padded-short (of g) (stream g) (start g).args.node (checked (entered w)) (omega (arith, c.if1.true, w.width_of_lem.ensures))))
+    (ap is_early
+    (padded_short (of g) (stream g) (start g).args.node (checked (entered w)) (omega (arith, c.if1.true, w.width_of_lem.ensures))))
 
 -- The stream has enough bits.
 module _ (c : tie.Else1) where
@@ -117,17 +117,17 @@ module _ (c : tie.Else1) where
   enough = omega (arith, c.if1.false, sized.width_of_lem.ensures)
 
   run : read (call sized) ≡ decoded (take (wide sized) (drop (at (call sized)) (bits_of (src (call sized))))) (wide sized)
-  run = let g = call sized in padded-lent (of g) (stream g) (start g).args.node (checked (entered sized)) enough
+  run = let g = call sized in padded_lent (of g) (stream g) (start g).args.node (checked (entered sized)) enough
 
   lies : Run (src (call sized)) (at (call sized)) (wide sized)
-  lies = let g = call sized in padded-run (of g) (stream g) (start g).args.node (checked (entered sized)) enough
+  lies = let g = call sized in padded_run (of g) (stream g) (start g).args.node (checked (entered sized)) enough
 
-  record-wide : length (recordOf (read (call sized))) ≡ wide sized
-  record-wide =
+  record_wide : length (decoded_record (read (call sized))) ≡ wide sized
+  record_wide =
       let from = drop (at (call sized)) (bits_of (src (call sized))) in
-      ap (λ (d : Decoded). length (recordOf d)) run
+      ap (λ (d : Decoded). length (decoded_record d)) run
       ∙ length-take-le (wide sized) from
-      (omega (arith, lies.inside, length-drop (at (call sized)) (bits_of (src (call sized))), length-bitsOf (src (call sized))))
+      (omega (arith, lies.inside, length-drop (at (call sized)) (bits_of (src (call sized))), length_bits_of (src (call sized))))
 
 bytes-for-requires : tie.Need-bytes-for-requires
 bytes-for-requires c κs = let w = sized c in omega (arith, w.width_of_lem.ensures, (checked (entered w)).named.narrow)
@@ -138,8 +138,8 @@ returns-3 c =
     let e = b.before in
     let w = sized e in
     let g = call w in
-    short (rungs g) (stream g) (read g) (start g).args.out.now (passed (entered w)) (ap isEarly (run e))
-    (omega (arith, c.if2.true, b.bytes-for.ensures, w.width_of_lem.ensures, record-wide e))
+    short (rungs g) (stream g) (read g) (start g).args.out.now (passed (entered w)) (ap is_early (run e))
+    (omega (arith, c.if2.true, b.bytes-for.ensures, w.width_of_lem.ensures, record_wide e))
 
 write-run-requires : tie.Need-write-run-requires
 write-run-requires c κs =
@@ -180,16 +180,16 @@ returns-4 c =
     let g = call w in
     let out = (start g).args.out.now in
     let from = drop (at g) (bits_of (src g)) in
-    done (rungs g) (stream g) (read g) out (passed (entered w)) (ap isEarly (run e))
-    (omega (arith, (copied c).before.before.if2.false, (roomy c).bytes-for.ensures, w.width_of_lem.ensures, record-wide e))
+    done (rungs g) (stream g) (read g) out (passed (entered w)) (ap is_early (run e))
+    (omega (arith, (copied c).before.before.if2.false, (roomy c).bytes-for.ensures, w.width_of_lem.ensures, record_wide e))
     _
     (ap (λ (k : ℕ). (start g).args.position + k) (w.width_of_lem.ensures ∙ sym (ap consumed (run e))))
     _
     ((copied c).write-run.ensures
-    ∙ ap (λ (v : List Bool). written v out) (ap (λ (k : ℕ). take k from) w.width_of_lem.ensures ∙ sym (ap recordOf (run e))))
+    ∙ ap (λ (v : List Bool). written v out) (ap (λ (k : ℕ). take k from) w.width_of_lem.ensures ∙ sym (ap decoded_record (run e))))
 
-pub from-padded-bits-spec : {M : Type 1} → statement M
-from-padded-bits-spec =
+pub from_padded_bits_spec : {M : Type 1} → statement M
+from_padded_bits_spec =
     tie.close
     (tie.spec
     stream-requires

@@ -12,13 +12,13 @@ use Rattle.meaning.specs.Bits.{bits_of, room, written}
 use Rattle.meaning.specs.Ladder.{accepted, Rung, ladder, Record, record_of}
 use Rattle.answers.specs.Verdicts.{done_of}
 use Rattle.meaning.specs.Records.{compact}
-use Rattle.meaning.proofs.Records.{compact-most}
-use Rattle.meaning.specs.CodecCalls.{writeRungs, compactBits}
+use Rattle.meaning.proofs.Records.{compact_most}
+use Rattle.meaning.specs.CodecCalls.{write_rungs, compact_bits}
 use Rattle.checked.specs.Passed.{Held}
-use Rattle.checked.proofs.Passed.{handed-passed}
+use Rattle.checked.proofs.Passed.{handed_passed}
 use Rattle.checked.proofs.Made.{stopped, short, done}
-use Rattle.checked.proofs.Lent.{lent, starts, lent-run}
-use Rattle.codec.proofs.Lent.{record-compact}
+use Rattle.checked.proofs.Lent.{lent, starts, lent_run}
+use Rattle.codec.proofs.Lent.{record_compact}
 use Rattle.codec.proofs.codecs.to_compact_bits.Statement.{statement}
 use Rattle.codec.proofs.codecs.to_compact_bits.Tie as tie
 
@@ -43,10 +43,10 @@ module _ (c : tie.After-record) where
   at = start.args.offset % 8
 
   abbrev rungs : List Rung
-  rungs = writeRungs of handed
+  rungs = write_rungs of handed
 
   abbrev all : List Bool
-  all = compactBits of handed
+  all = compact_bits of handed
 
 record-requires : tie.Need-record-requires
 record-requires c κs = search rules
@@ -71,7 +71,7 @@ module _ (c : tie.After-enum-told) where
   passed = sym (ap done_of (sym c.enum_told.given.1) ∙ asked.«record».ensures)
 
   checked : Held (of asked) (handed asked)
-  checked = (handed-passed (of asked) (handed asked ∷ []) [] passed).0.0
+  checked = (handed_passed (of asked) (handed asked ∷ []) [] passed).0.0
 
 sub-src : tie.Need-overflow-sub-src
 sub-src c = starts (of (asked c)) (handed (asked c)) (checked c)
@@ -83,7 +83,7 @@ part-src-end : tie.Need-slice-bounds-src-end
 part-src-end c = search rules
 
 compact-fits-requires : tie.Need-compact-fits-requires
-compact-fits-requires c κs = let e = c.before in ((checked e).named, lent-run (of (asked e)) (handed (asked e)) (checked e) _ refl)
+compact-fits-requires c κs = let e = c.before in ((checked e).named, lent_run (of (asked e)) (handed (asked e)) (checked e) _ refl)
 
 -- It is known whether there is room.
 module _ (c : tie.After-compact-fits) where
@@ -98,13 +98,13 @@ module _ (c : tie.After-compact-fits) where
   again = compact (ty_at (of call).columns (start call).args.node) (drop (at call) (bits_of (src call)))
 
   same : again ≡ all call
-  same = record-compact (of call) (handed call) (checked entered)
+  same = record_compact (of call) (handed call) (checked entered)
 
   few : length again ≤ 524288
   few =
       omega (
         arith,
-        compact-most (ty_at (of call).columns (start call).args.node) (drop (at call) (bits_of (src call))),
+        compact_most (ty_at (of call).columns (start call).args.node) (drop (at call) (bits_of (src call))),
         (checked entered).named.narrow,
       )
 
@@ -130,7 +130,7 @@ write-record-requires : tie.Need-write-record-requires
 write-record-requires c κs =
     let f = fitting c.before in
     let e = entered f in
-    ((checked e).named, (lent-run (of (asked e)) (handed (asked e)) (checked e) _ refl, record { inside = omega (arith, has_room c.before); counted = omega (arith, few f) }))
+    ((checked e).named, (lent_run (of (asked e)) (handed (asked e)) (checked e) _ refl, record { inside = omega (arith, has_room c.before); counted = omega (arith, few f) }))
 
 same_length : tie.Need-same-length
 same_length c = search rules
@@ -146,8 +146,8 @@ returns-3 c =
     _
     (w.write-record.ensures.1 ∙ ap (λ (v : List Bool). written v out) (same f))
 
-pub to-compact-bits-spec : {M : Type 1} → statement M
-to-compact-bits-spec =
+pub to_compact_bits_spec : {M : Type 1} → statement M
+to_compact_bits_spec =
     tie.close
     (tie.spec
     record-requires

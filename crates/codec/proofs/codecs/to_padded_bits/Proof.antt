@@ -8,13 +8,13 @@ use borrow.Author.Rules.{rules}
 use lib.ListN.{length}
 use Rattle.meaning.specs.Tables.{Table, table}
 use Rattle.meaning.specs.Bits.{written}
-use Rattle.meaning.specs.Ladder.{accepted, Rung, ladder, Record, record_of, recordBits}
+use Rattle.meaning.specs.Ladder.{accepted, Rung, ladder, Record, record_of, record_bits}
 use Rattle.answers.specs.Verdicts.{done_of}
-use Rattle.meaning.specs.CodecCalls.{writeRungs}
+use Rattle.meaning.specs.CodecCalls.{write_rungs}
 use Rattle.checked.specs.Passed.{Held}
-use Rattle.checked.proofs.Passed.{handed-passed}
+use Rattle.checked.proofs.Passed.{handed_passed}
 use Rattle.checked.proofs.Made.{stopped, short, done}
-use Rattle.checked.proofs.Lent.{starts, lent-run, lent-bits, own-length}
+use Rattle.checked.proofs.Lent.{starts, lent_run, lent_bits, own_length}
 use Rattle.codec.proofs.codecs.to_padded_bits.Statement.{statement}
 use Rattle.codec.proofs.codecs.to_padded_bits.Tie as tie
 
@@ -32,10 +32,10 @@ module _ (c : tie.After-record) where
   handed = record_of start.args.bytes.now start.args.offset start.args.node
 
   abbrev rungs : List Rung
-  rungs = writeRungs of handed
+  rungs = write_rungs of handed
 
   abbrev all : List Bool
-  all = recordBits of handed
+  all = record_bits of handed
 
 record-requires : tie.Need-record-requires
 record-requires c κs = search rules
@@ -60,7 +60,7 @@ module _ (c : tie.After-enum-told) where
   passed = sym (ap done_of (sym c.enum_told.given.1) ∙ asked.«record».ensures)
 
   checked : Held (of asked) (handed asked)
-  checked = (handed-passed (of asked) (handed asked ∷ []) [] passed).0.0
+  checked = (handed_passed (of asked) (handed asked ∷ []) [] passed).0.0
 
 sub-src : tie.Need-overflow-sub-src
 sub-src c = starts (of (asked c)) (handed (asked c)) (checked c)
@@ -83,7 +83,7 @@ module _ (c : tie.After-width-of) where
   call = asked entered
 
   counted : c.width_of_lem.result ≡ length (all call)
-  counted = c.width_of_lem.ensures ∙ sym (own-length (of call) (handed call) (checked entered))
+  counted = c.width_of_lem.ensures ∙ sym (own_length (of call) (handed call) (checked entered))
 
   narrow : c.width_of_lem.result ≤ 524288
   narrow = omega (arith, c.width_of_lem.ensures, (checked entered).named.narrow)
@@ -104,7 +104,7 @@ write-run-requires c κs =
     let w = b.before in
     let e = entered w in (
       record { inside = omega (arith, c.before.if1.false, b.bytes-for.ensures); counted = omega (arith, narrow w) },
-      lent-run (of (asked e)) (handed (asked e)) (checked e) _ w.width_of_lem.ensures,
+      lent_run (of (asked e)) (handed (asked e)) (checked e) _ w.width_of_lem.ensures,
     )
 
 same_length : tie.Need-same-length
@@ -119,10 +119,10 @@ returns-3 c =
     let out = (start g).args.out.now in
     done (rungs g) (all g) out (passed (entered w)) (omega (arith, d.before.before.if1.false, b.bytes-for.ensures, counted w)) _ (counted w) _
     (d.write-run.ensures
-    ∙ ap (λ (v : List Bool). written v out) (lent-bits (of g) (handed g) (checked (entered w)) _ w.width_of_lem.ensures))
+    ∙ ap (λ (v : List Bool). written v out) (lent_bits (of g) (handed g) (checked (entered w)) _ w.width_of_lem.ensures))
 
-pub to-padded-bits-spec : {M : Type 1} → statement M
-to-padded-bits-spec =
+pub to_padded_bits_spec : {M : Type 1} → statement M
+to_padded_bits_spec =
     tie.close
     (tie.spec
     record-requires

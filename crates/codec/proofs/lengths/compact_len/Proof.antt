@@ -5,14 +5,14 @@ use borrow.Author.Rules.{rules}
 use lib.ListN.{length}
 use Rattle.meaning.specs.Tables.{Table, table}
 use Rattle.meaning.specs.Ladder.{accepted, Rung, ladder, Record, record_of}
-use Rattle.meaning.proofs.Ladders.{ladder-stop}
-use Rattle.meaning.specs.CodecCalls.{writeRungs, compactBits}
+use Rattle.meaning.proofs.Ladders.{ladder_stop}
+use Rattle.meaning.specs.CodecCalls.{write_rungs, compact_bits}
 use Rattle.answers.specs.Verdicts.{done_of}
 use Rattle.checked.specs.Passed.{Held}
-use Rattle.checked.proofs.Passed.{handed-passed}
-use Rattle.checked.proofs.Passes.{handed-accepts}
-use Rattle.checked.proofs.Lent.{starts, lent-run}
-use Rattle.codec.proofs.Lent.{record-compact}
+use Rattle.checked.proofs.Passed.{handed_passed}
+use Rattle.checked.proofs.Passes.{handed_accepts}
+use Rattle.checked.proofs.Lent.{starts, lent_run}
+use Rattle.codec.proofs.Lent.{record_compact}
 use Rattle.codec.proofs.lengths.compact_len.Statement.{statement}
 use Rattle.codec.proofs.lengths.compact_len.Tie as tie
 
@@ -30,7 +30,7 @@ module _ (c : tie.After-record) where
   handed = record_of start.args.bytes.now start.args.offset start.args.node
 
   abbrev rungs : List Rung
-  rungs = writeRungs of handed
+  rungs = write_rungs of handed
 
 record-requires : tie.Need-record-requires
 record-requires c κs = search rules
@@ -41,8 +41,8 @@ enum-known-passed c = search rules
 returns : tie.Need-returns
 returns c =
     let g = c.before.before.before in
-    let counted = length (compactBits (of g) (handed g)) in
-    sym (ladder-stop (rungs g) [] (tt {0}) counted _ _ (sym (ap done_of (sym c.before.passed.given.1) ∙ g.«record».ensures)))
+    let counted = length (compact_bits (of g) (handed g)) in
+    sym (ladder_stop (rungs g) [] (tt {0}) counted _ _ (sym (ap done_of (sym c.before.passed.given.1) ∙ g.«record».ensures)))
     ∙ ap (λ (x : List Rung). ladder x counted) (append-nil (rungs g))
 
 enum_told : tie.Need-enum-told
@@ -55,7 +55,7 @@ module _ (c : tie.After-enum-told) where
 
   checked : Held (of asked) (handed asked)
   checked =
-      (handed-passed (of asked) (handed asked ∷ []) [] (sym (ap done_of (sym c.enum_told.given.1) ∙ asked.«record».ensures))).0.0
+      (handed_passed (of asked) (handed asked ∷ []) [] (sym (ap done_of (sym c.enum_told.given.1) ∙ asked.«record».ensures))).0.0
 
 sub-count-compact : tie.Need-overflow-sub-count-compact
 sub-count-compact c = starts (of (asked c)) (handed (asked c)) (checked c)
@@ -67,17 +67,17 @@ part-count-compact-end : tie.Need-slice-bounds-count-compact-end
 part-count-compact-end c = search rules
 
 count-compact-requires : tie.Need-count-compact-requires
-count-compact-requires c κs = let e = c.before in ((checked e).named, lent-run (of (asked e)) (handed (asked e)) (checked e) _ refl)
+count-compact-requires c κs = let e = c.before in ((checked e).named, lent_run (of (asked e)) (handed (asked e)) (checked e) _ refl)
 
 returns-2 : tie.Need-returns-2
 returns-2 c =
     let e = c.before.before in
     let g = asked e in
-    ap accepted (c.count-compact.ensures ∙ ap length (record-compact (of g) (handed g) (checked e)))
-    ∙ sym (handed-accepts (of g) (checked e).named.sound (handed g ∷ []) [] (length (compactBits (of g) (handed g))) (checked e, tt) tt)
+    ap accepted (c.count-compact.ensures ∙ ap length (record_compact (of g) (handed g) (checked e)))
+    ∙ sym (handed_accepts (of g) (checked e).named.sound (handed g ∷ []) [] (length (compact_bits (of g) (handed g))) (checked e, tt) tt)
 
-pub compact-len-spec : {M : Type 1} → statement M
-compact-len-spec =
+pub compact_len_spec : {M : Type 1} → statement M
+compact_len_spec =
     tie.close
     (tie.spec
     record-requires

@@ -4,7 +4,7 @@ use native.Mathlib.Omega.{arith}
 use Prim.Native.Nat.{◌-◌, ◌≤◌}
 use mathlib.Core.Path.{◌≡◌, refl, ap, ◌∙◌}
 use lib.ListN.{length, get_or, length-set}
-use Rattle.exports_answers.proofs.Fronts.{front, front-more, front-all}
+use Rattle.exports_answers.proofs.Fronts.{front, front_more, front_all}
 use Rattle.exports.proofs.buffers.copy_front.Statement.{statement}
 use Rattle.exports.proofs.buffers.copy_front.Tie as tie
 
@@ -36,7 +36,7 @@ loop-again c =
       omega arith,
       (
         length-set at.dst at.i (get_or a.src.now at.i 0) ∙ at.invariant.1.0,
-        front-more a.src.now a.dst.now at.dst at.i (omega arith) (omega arith) at.invariant.1.1,
+        front_more a.src.now a.dst.now at.dst at.i (omega arith) (omega arith) at.invariant.1.1,
       ),
     )
 
@@ -48,10 +48,10 @@ returns c =
     let a = c.before.before.args in
     let at = c.before.loop in
     let last : at.i ≡ length a.src.now = omega arith in
-    at.invariant.1.1 ∙ ap (front a.dst.now a.src.now) last ∙ front-all a.src.now a.dst.now
+    at.invariant.1.1 ∙ ap (front a.dst.now a.src.now) last ∙ front_all a.src.now a.dst.now
 
-pub copy-front-spec : {M : Type 1} → statement M
-copy-front-spec =
+pub copy_front_spec : {M : Type 1} → statement M
+copy_front_spec =
     tie.close
     (tie.spec
     invariant-loop

@@ -4,7 +4,7 @@ use borrow.Author.Rules.{rules}
 use borrow.Author.Tests.{eq-eqb, ne_eqb, lt-leb}
 use mathlib.Core.Path.{refl}
 use lib.ListN.{length, replicate}
-use Rattle.exports.proofs.States.{no-stand, stands}
+use Rattle.exports.proofs.States.{no_stand, stands}
 use Rattle.exports.proofs.buffers.hash_state.Statement.{statement}
 use Rattle.exports.proofs.buffers.hash_state.Tie as tie
 
@@ -14,7 +14,7 @@ no-state-requires c κs = search rules
 returns : tie.Need-returns
 returns c =
     let a = c.before.before.before.before.args in
-    no-stand a.midstate.now a.bytes-hashed a.buffer.now c.no-state.result c.no-state.ensures
+    no_stand a.midstate.now a.bytes-hashed a.buffer.now c.no-state.result c.no-state.ensures
     (simp (ne_eqb (length a.midstate.now) 32 c.before.if1.true))
 
 no-state-requires-2 : tie.Need-no-state-requires-2
@@ -23,7 +23,7 @@ no-state-requires-2 c κs = search rules
 returns-2 : tie.Need-returns-2
 returns-2 c =
     let a = c.before.before.before.before.before.args in
-    no-stand a.midstate.now a.bytes-hashed a.buffer.now c.no-state2.result c.no-state2.ensures
+    no_stand a.midstate.now a.bytes-hashed a.buffer.now c.no-state2.result c.no-state2.ensures
     (simp (
       eq-eqb (length a.midstate.now) 32 c.before.before.if1.false,
       lt-leb (length a.buffer.now) 63 c.before.if2.true,
@@ -53,8 +53,8 @@ returns-3 c =
     c.before.copy-front2.ensures
     refl
 
-pub hash-state-spec : {M : Type 1} → statement M
-hash-state-spec =
+pub hash_state_spec : {M : Type 1} → statement M
+hash_state_spec =
     tie.close
     (tie.spec
     no-state-requires

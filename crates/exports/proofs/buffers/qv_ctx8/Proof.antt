@@ -4,10 +4,10 @@ use Prim.Native.Nat.{ℕ}
 use mathlib.Core.Path.{◌≡◌, ◌∙◌}
 use Rattle.answers.specs.Verdicts.{count_of}
 use Rattle.meaning.specs.Tables.{Table, table}
-use Rattle.exports.specs.Handed.{ctx8Handed, ctx8HandedOut}
-use Rattle.exports.proofs.Nears.{ctx8-near}
+use Rattle.exports.specs.Handed.{ctx8_handed, ctx8_handed_out}
+use Rattle.exports.proofs.Nears.{ctx8_near}
 use Rattle.exports_answers.proofs.Crossing.{crossing}
-use Rattle.exports.proofs.States.{handed-call, handed_out}
+use Rattle.exports.proofs.States.{handed_call, handed_out}
 use Rattle.exports.proofs.buffers.qv_ctx8.Statement.{statement}
 use Rattle.exports.proofs.buffers.qv_ctx8.Tie as tie
 
@@ -23,11 +23,11 @@ start c = c.before.before.before.before.before.before.before.before.before.befor
 -- What `ctx8` says of the struct, said of the slices.
 called : (c : tie.After-ctx8)
     → count_of c.ctx8.result
-    ≡ ctx8Handed (of (start c)) (start c).args.midstate.now (start c).args.bytes-hashed (start c).args.buffer.now (start c).args.res (start c).args.out.now
+    ≡ ctx8_handed (of (start c)) (start c).args.midstate.now (start c).args.bytes-hashed (start c).args.buffer.now (start c).args.res (start c).args.out.now
 called c =
     let a = (start c).args in
     c.ctx8.ensures.0
-    ∙ handed-call (of (start c)) a.midstate.now a.bytes-hashed a.buffer.now c.before.before.hash-state.result a.result a.out.now
+    ∙ handed_call (of (start c)) a.midstate.now a.bytes-hashed a.buffer.now c.before.before.hash-state.result a.result a.out.now
     c.before.before.hash-state.ensures
 
 hash-state-requires : tie.Need-hash-state-requires
@@ -37,7 +37,7 @@ ctx8-requires : tie.Need-ctx8-requires
 ctx8-requires c κs = search rules
 
 tell-count-requires : tie.Need-tell-count-requires
-tell-count-requires c κs = search (crossing, ctx8-near, called c.before.before.before)
+tell-count-requires c κs = search (crossing, ctx8_near, called c.before.before.before)
 
 same_length : tie.Need-same-length
 same_length c = search rules
@@ -55,5 +55,5 @@ returns c =
       ),
     )
 
-pub qv-ctx8-spec : {M : Type 1} → statement M
-qv-ctx8-spec = tie.close (tie.spec hash-state-requires ctx8-requires tell-count-requires same_length returns)
+pub qv_ctx8_spec : {M : Type 1} → statement M
+qv_ctx8_spec = tie.close (tie.spec hash-state-requires ctx8-requires tell-count-requires same_length returns)

@@ -17,5 +17,5 @@ same_length c = search rules
 returns : tie.Need-returns
 returns c = (search crossing, (search crossing, search crossing))
 
-pub qv-left-spec : {M : Type 1} → statement M
-qv-left-spec = tie.close (tie.spec left-requires tell-count-requires same_length returns)
+pub qv_left_spec : {M : Type 1} → statement M
+qv_left_spec = tie.close (tie.spec left-requires tell-count-requires same_length returns)

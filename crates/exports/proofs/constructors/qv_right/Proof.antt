@@ -17,5 +17,5 @@ same_length c = search rules
 returns : tie.Need-returns
 returns c = (search crossing, (search crossing, search crossing))
 
-pub qv-right-spec : {M : Type 1} → statement M
-qv-right-spec = tie.close (tie.spec right-requires tell-count-requires same_length returns)
+pub qv_right_spec : {M : Type 1} → statement M
+qv_right_spec = tie.close (tie.spec right-requires tell-count-requires same_length returns)

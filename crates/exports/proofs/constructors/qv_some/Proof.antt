@@ -17,5 +17,5 @@ same_length c = search rules
 returns : tie.Need-returns
 returns c = (search crossing, (search crossing, search crossing))
 
-pub qv-some-spec : {M : Type 1} → statement M
-qv-some-spec = tie.close (tie.spec some-requires tell-count-requires same_length returns)
+pub qv_some_spec : {M : Type 1} → statement M
+qv_some_spec = tie.close (tie.spec some-requires tell-count-requires same_length returns)

@@ -1,6 +1,6 @@
 -- `exports::views::qv_as_left` meets its contract: what crosses is what the call says, and its place is near. Assumes nothing.
 use borrow.Author.Rules.{rules}
-use Rattle.exports.proofs.Nears.{as-left-near}
+use Rattle.exports.proofs.Nears.{as_left_near}
 use Rattle.exports_answers.proofs.Crossing.{crossing}
 use Rattle.exports.proofs.views.qv_as_left.Statement.{statement}
 use Rattle.exports.proofs.views.qv_as_left.Tie as tie
@@ -9,7 +9,7 @@ as-left-requires : tie.Need-as-left-requires
 as-left-requires c κs = search rules
 
 tell-view-requires : tie.Need-tell-view-requires
-tell-view-requires c κs = search (crossing, as-left-near)
+tell-view-requires c κs = search (crossing, as_left_near)
 
 same_length : tie.Need-same-length
 same_length c = search rules
@@ -17,5 +17,5 @@ same_length c = search rules
 returns : tie.Need-returns
 returns c = (search crossing, search crossing)
 
-pub qv-as-left-spec : {M : Type 1} → statement M
-qv-as-left-spec = tie.close (tie.spec as-left-requires tell-view-requires same_length returns)
+pub qv_as_left_spec : {M : Type 1} → statement M
+qv_as_left_spec = tie.close (tie.spec as-left-requires tell-view-requires same_length returns)

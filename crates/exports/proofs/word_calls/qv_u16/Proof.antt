@@ -1,6 +1,6 @@
 -- `exports::word_calls::qv_u16` meets its contract: what crosses is what the call says, and its place is near. Assumes nothing.
 use borrow.Author.Rules.{rules}
-use Rattle.exports.proofs.Nears.{bytes-near}
+use Rattle.exports.proofs.Nears.{bytes_near}
 use Rattle.exports_answers.proofs.Crossing.{crossing}
 use Rattle.exports.proofs.word_calls.qv_u16.Statement.{statement}
 use Rattle.exports.proofs.word_calls.qv_u16.Tie as tie
@@ -9,7 +9,7 @@ u16-requires : tie.Need-u16-requires
 u16-requires c κs = search rules
 
 tell-count-requires : tie.Need-tell-count-requires
-tell-count-requires c κs = search (crossing, bytes-near)
+tell-count-requires c κs = search (crossing, bytes_near)
 
 same_length : tie.Need-same-length
 same_length c = search rules
@@ -17,5 +17,5 @@ same_length c = search rules
 returns : tie.Need-returns
 returns c = (search crossing, (search crossing, search crossing))
 
-pub qv-u16-spec : {M : Type 1} → statement M
-qv-u16-spec = tie.close (tie.spec u16-requires tell-count-requires same_length returns)
+pub qv_u16_spec : {M : Type 1} → statement M
+qv_u16_spec = tie.close (tie.spec u16-requires tell-count-requires same_length returns)

@@ -1,6 +1,6 @@
 -- `exports::word_calls::qv_u32` meets its contract: what crosses is what the call says, and its place is near. Assumes nothing.
 use borrow.Author.Rules.{rules}
-use Rattle.exports.proofs.Nears.{bytes-near}
+use Rattle.exports.proofs.Nears.{bytes_near}
 use Rattle.exports_answers.proofs.Crossing.{crossing}
 use Rattle.exports.proofs.word_calls.qv_u32.Statement.{statement}
 use Rattle.exports.proofs.word_calls.qv_u32.Tie as tie
@@ -9,7 +9,7 @@ u32-requires : tie.Need-u32-requires
 u32-requires c κs = search rules
 
 tell-count-requires : tie.Need-tell-count-requires
-tell-count-requires c κs = search (crossing, bytes-near)
+tell-count-requires c κs = search (crossing, bytes_near)
 
 same_length : tie.Need-same-length
 same_length c = search rules
@@ -17,5 +17,5 @@ same_length c = search rules
 returns : tie.Need-returns
 returns c = (search crossing, (search crossing, search crossing))
 
-pub qv-u32-spec : {M : Type 1} → statement M
-qv-u32-spec = tie.close (tie.spec u32-requires tell-count-requires same_length returns)
+pub qv_u32_spec : {M : Type 1} → statement M
+qv_u32_spec = tie.close (tie.spec u32-requires tell-count-requires same_length returns)

@@ -1,6 +1,6 @@
 -- `exports::word_calls::qv_u4` meets its contract: what crosses is what the call says, and its place is near. Assumes nothing.
 use borrow.Author.Rules.{rules}
-use Rattle.exports.proofs.Nears.{number-near}
+use Rattle.exports.proofs.Nears.{number_near}
 use Rattle.exports_answers.proofs.Crossing.{crossing}
 use Rattle.exports.proofs.word_calls.qv_u4.Statement.{statement}
 use Rattle.exports.proofs.word_calls.qv_u4.Tie as tie
@@ -9,7 +9,7 @@ u4-requires : tie.Need-u4-requires
 u4-requires c κs = search rules
 
 tell-count-requires : tie.Need-tell-count-requires
-tell-count-requires c κs = search (crossing, number-near)
+tell-count-requires c κs = search (crossing, number_near)
 
 same_length : tie.Need-same-length
 same_length c = search rules
@@ -17,5 +17,5 @@ same_length c = search rules
 returns : tie.Need-returns
 returns c = (search crossing, (search crossing, search crossing))
 
-pub qv-u4-spec : {M : Type 1} → statement M
-qv-u4-spec = tie.close (tie.spec u4-requires tell-count-requires same_length returns)
+pub qv_u4_spec : {M : Type 1} → statement M
+qv_u4_spec = tie.close (tie.spec u4-requires tell-count-requires same_length returns)

@@ -1,6 +1,6 @@
 -- `exports::word_calls::qv_u64` meets its contract: what crosses is what the call says, and its place is near. Assumes nothing.
 use borrow.Author.Rules.{rules}
-use Rattle.exports.proofs.Nears.{bytes-near}
+use Rattle.exports.proofs.Nears.{bytes_near}
 use Rattle.exports_answers.proofs.Crossing.{crossing}
 use Rattle.exports.proofs.word_calls.qv_u64.Statement.{statement}
 use Rattle.exports.proofs.word_calls.qv_u64.Tie as tie
@@ -9,7 +9,7 @@ u64-requires : tie.Need-u64-requires
 u64-requires c κs = search rules
 
 tell-count-requires : tie.Need-tell-count-requires
-tell-count-requires c κs = search (crossing, bytes-near)
+tell-count-requires c κs = search (crossing, bytes_near)
 
 same_length : tie.Need-same-length
 same_length c = search rules
@@ -17,5 +17,5 @@ same_length c = search rules
 returns : tie.Need-returns
 returns c = (search crossing, (search crossing, search crossing))
 
-pub qv-u64-spec : {M : Type 1} → statement M
-qv-u64-spec = tie.close (tie.spec u64-requires tell-count-requires same_length returns)
+pub qv_u64_spec : {M : Type 1} → statement M
+qv_u64_spec = tie.close (tie.spec u64-requires tell-count-requires same_length returns)

@@ -1,6 +1,6 @@
 -- `exports::word_type_calls::qv_is_ctx8` meets its contract: what crosses is what the call says, and its place is near. Assumes nothing.
 use borrow.Author.Rules.{rules}
-use Rattle.exports.proofs.Nears.{is-ctx8-near}
+use Rattle.exports.proofs.Nears.{is_ctx8_near}
 use Rattle.exports_answers.proofs.Crossing.{crossing}
 use Rattle.exports.proofs.word_type_calls.qv_is_ctx8.Statement.{statement}
 use Rattle.exports.proofs.word_type_calls.qv_is_ctx8.Tie as tie
@@ -9,10 +9,10 @@ is-ctx8-requires : tie.Need-is-ctx8-requires
 is-ctx8-requires c κs = search rules
 
 tell-flag-requires : tie.Need-tell-flag-requires
-tell-flag-requires c κs = search (crossing, is-ctx8-near)
+tell-flag-requires c κs = search (crossing, is_ctx8_near)
 
 returns : tie.Need-returns
 returns c = (search crossing, search crossing)
 
-pub qv-is-ctx8-spec : {M : Type 1} → statement M
-qv-is-ctx8-spec = tie.close (tie.spec is-ctx8-requires tell-flag-requires returns)
+pub qv_is_ctx8_spec : {M : Type 1} → statement M
+qv_is_ctx8_spec = tie.close (tie.spec is-ctx8-requires tell-flag-requires returns)

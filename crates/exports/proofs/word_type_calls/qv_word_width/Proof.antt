@@ -1,6 +1,6 @@
 -- `exports::word_type_calls::qv_word_width` meets its contract: what crosses is what the call says, and its place is near. Assumes nothing.
 use borrow.Author.Rules.{rules}
-use Rattle.exports.proofs.Nears.{word-width-near}
+use Rattle.exports.proofs.Nears.{word_width_near}
 use Rattle.exports_answers.proofs.Crossing.{crossing}
 use Rattle.exports.proofs.word_type_calls.qv_word_width.Statement.{statement}
 use Rattle.exports.proofs.word_type_calls.qv_word_width.Tie as tie
@@ -9,10 +9,10 @@ word-width-requires : tie.Need-word-width-requires
 word-width-requires c κs = search rules
 
 tell-count-requires : tie.Need-tell-count-requires
-tell-count-requires c κs = search (crossing, word-width-near)
+tell-count-requires c κs = search (crossing, word_width_near)
 
 returns : tie.Need-returns
 returns c = (search crossing, search crossing)
 
-pub qv-word-width-spec : {M : Type 1} → statement M
-qv-word-width-spec = tie.close (tie.spec word-width-requires tell-count-requires returns)
+pub qv_word_width_spec : {M : Type 1} → statement M
+qv_word_width_spec = tie.close (tie.spec word-width-requires tell-count-requires returns)

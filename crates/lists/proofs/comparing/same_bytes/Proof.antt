@@ -64,8 +64,8 @@ returns-3 c = λ h.
     let lengths : length s.args.a.now ≡ length s.args.b.now = c.before.before.if1.false in
     sym (take_all i s.args.a.now ended) ∙ c.before.loop.invariant.1 ∙ take_all i s.args.b.now (omega arith)
 
-pub same-bytes-spec : {M : Type 1} → statement M
-same-bytes-spec =
+pub same_bytes_spec : {M : Type 1} → statement M
+same_bytes_spec =
     tie.close
     (tie.spec
     invariant-loop

@@ -51,15 +51,15 @@ number-at-requires-10 c κs = search rules
 returns : tie.Need-returns
 returns c =
     record {
-      a-within = c.before.before.before.before.before.before.before.before.before.before.before.before.before.before.run_at.ensures.0;
-      b-within = c.before.before.before.before.before.before.before.before.before.before.before.run-at2.ensures.0;
-      stream-within = c.before.before.before.before.before.before.before.before.run-at3.ensures.0;
-      data-within = c.before.before.before.before.run-at4.ensures.0;
-      buffer-within = c.before.before.before.run-at5.ensures.0;
+      a_within = c.before.before.before.before.before.before.before.before.before.before.before.before.before.before.run_at.ensures.0;
+      b_within = c.before.before.before.before.before.before.before.before.before.before.before.run-at2.ensures.0;
+      stream_within = c.before.before.before.before.before.before.before.before.run-at3.ensures.0;
+      data_within = c.before.before.before.before.run-at4.ensures.0;
+      buffer_within = c.before.before.before.run-at5.ensures.0;
     }
 
-pub request-at-spec : {M : Type 1} → statement M
-request-at-spec =
+pub request_at_spec : {M : Type 1} → statement M
+request_at_spec =
     tie.close
     (tie.spec
     run-at-requires

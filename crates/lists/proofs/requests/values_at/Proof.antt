@@ -44,8 +44,8 @@ loop-again c = search rules
 returns-2 : tie.Need-returns-2 invariant-loop decreases-loop
 returns-2 c = search rules
 
-pub values-at-spec : {M : Type 1} → statement M
-values-at-spec =
+pub values_at_spec : {M : Type 1} → statement M
+values_at_spec =
     tie.close
     (tie.spec
     invariant-loop

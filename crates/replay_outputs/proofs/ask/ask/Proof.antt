@@ -21,5 +21,5 @@ same_length c = search rules
 returns : tie.Need-returns
 returns c = search rules
 
-pub ask-spec : {M : Type 1} → statement M
-ask-spec = tie.close (tie.spec slice-relend-prefix-made slice-aggregate-made made-requires same_length returns)
+pub ask_spec : {M : Type 1} → statement M
+ask_spec = tie.close (tie.spec slice-relend-prefix-made slice-aggregate-made made-requires same_length returns)

@@ -73,8 +73,8 @@ loop-again c = search rules
 returns-5 : tie.Need-returns-5 invariant-loop decreases-loop
 returns-5 c = search rules
 
-pub same-nodes-spec : {M : Type 1} → statement M
-same-nodes-spec =
+pub same_nodes_spec : {M : Type 1} → statement M
+same_nodes_spec =
     tie.close
     (tie.spec
     invariant-loop

@@ -5,10 +5,10 @@ use borrow.Author.Rules.{rules}
 use Rattle.meaning.specs.Tables.{Table, table}
 use Rattle.meaning.specs.Ladder.{accepted, Rung, ladder, Record, record_of}
 use Rattle.meaning.specs.RecordCalls.{handed}
-use Rattle.meaning.proofs.Ladders.{ladder-pass, ladder-stop}
+use Rattle.meaning.proofs.Ladders.{ladder_pass, ladder_stop}
 use Rattle.answers.specs.Verdicts.{done_of}
-use Rattle.value_comparing.specs.Comparing.{orderedAt}
-use Rattle.checked.proofs.Passed.{handed-passed}
+use Rattle.value_comparing.specs.Comparing.{ordered_at}
+use Rattle.checked.proofs.Passed.{handed_passed}
 use Rattle.value.proofs.comparing.compare.Statement.{statement}
 use Rattle.value.proofs.comparing.compare.Tie as tie
 
@@ -47,7 +47,7 @@ returns : tie.Need-returns
 returns c =
     let s = entry c.before.before.before in
     let r = c.before.judged.given in
-    sym (ladder-stop (rungs s) [] (tt {0}) (orderedAt (of s) (one s) (other s)) r.0.0.number r.0.0.place
+    sym (ladder_stop (rungs s) [] (tt {0}) (ordered_at (of s) (one s) (other s)) r.0.0.number r.0.0.place
     (sym c.before.before.before.two.ensures ∙ ap done_of r.1))
 
 enum_told : tie.Need-enum-told
@@ -55,17 +55,17 @@ enum_told c = search rules
 
 ordered-requires : tie.Need-ordered-requires
 ordered-requires c κs = let s = start c in
-    let p = handed-passed (of s) (one s ∷ other s ∷ []) [] (passed c) in (p.0.0, p.0.1.0)
+    let p = handed_passed (of s) (one s ∷ other s ∷ []) [] (passed c) in (p.0.0, p.0.1.0)
 
 returns-2 : tie.Need-returns-2
 unfolding ladder
 returns-2 c =
     let s = start c.before in
     ap accepted c.ordered.ensures
-    ∙ sym (ladder-pass (rungs s) [] (tt {0}) (tt {0}) (orderedAt (of s) (one s) (other s)) (passed c.before))
+    ∙ sym (ladder_pass (rungs s) [] (tt {0}) (tt {0}) (ordered_at (of s) (one s) (other s)) (passed c.before))
 
-pub compare-spec : {M : Type 1} → statement M
-compare-spec =
+pub compare_spec : {M : Type 1} → statement M
+compare_spec =
     tie.close
     (tie.spec
     two-requires

@@ -5,10 +5,10 @@ use borrow.Author.Rules.{rules}
 use Rattle.meaning.specs.Tables.{Table, table}
 use Rattle.meaning.specs.Ladder.{accepted, Rung, ladder, Record, record_of}
 use Rattle.meaning.specs.RecordCalls.{handed}
-use Rattle.meaning.proofs.Ladders.{ladder-pass, ladder-stop}
+use Rattle.meaning.proofs.Ladders.{ladder_pass, ladder_stop}
 use Rattle.answers.specs.Verdicts.{done_of}
-use Rattle.value_comparing.specs.Comparing.{alikeAt}
-use Rattle.checked.proofs.Passed.{handed-passed}
+use Rattle.value_comparing.specs.Comparing.{alike_at}
+use Rattle.checked.proofs.Passed.{handed_passed}
 use Rattle.value.proofs.comparing.equal.Statement.{statement}
 use Rattle.value.proofs.comparing.equal.Tie as tie
 
@@ -47,7 +47,7 @@ returns : tie.Need-returns
 returns c =
     let s = entry c.before.before.before in
     let r = c.before.judged.given in
-    sym (ladder-stop (rungs s) [] (tt {0}) (alikeAt (of s) (one s) (other s)) r.0.0.number r.0.0.place
+    sym (ladder_stop (rungs s) [] (tt {0}) (alike_at (of s) (one s) (other s)) r.0.0.number r.0.0.place
     (sym c.before.before.before.two.ensures ∙ ap done_of r.1))
 
 enum_told : tie.Need-enum-told
@@ -55,17 +55,17 @@ enum_told c = search rules
 
 alike-requires : tie.Need-alike-requires
 alike-requires c κs = let s = start c in
-    let p = handed-passed (of s) (one s ∷ other s ∷ []) [] (passed c) in (p.0.0, p.0.1.0)
+    let p = handed_passed (of s) (one s ∷ other s ∷ []) [] (passed c) in (p.0.0, p.0.1.0)
 
 returns-2 : tie.Need-returns-2
 unfolding ladder
 returns-2 c =
     let s = start c.before in
     ap accepted c.alike.ensures
-    ∙ sym (ladder-pass (rungs s) [] (tt {0}) (tt {0}) (alikeAt (of s) (one s) (other s)) (passed c.before))
+    ∙ sym (ladder_pass (rungs s) [] (tt {0}) (tt {0}) (alike_at (of s) (one s) (other s)) (passed c.before))
 
-pub equal-spec : {M : Type 1} → statement M
-equal-spec =
+pub equal_spec : {M : Type 1} → statement M
+equal_spec =
     tie.close
     (tie.spec
     two-requires

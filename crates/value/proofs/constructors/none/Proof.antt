@@ -6,13 +6,13 @@ use borrow.Author.Rules.{rules}
 use borrow.Author.Tests.{not-true, not-false}
 use Rattle.meaning.specs.Tables.{Table, table}
 use Rattle.meaning.specs.Ladder.{accepted, Rung, ladder, shaped, makes, made}
-use Rattle.meaning.specs.RecordCalls.{handed, noneBits}
+use Rattle.meaning.specs.RecordCalls.{handed, none_bits}
 use Rattle.answers.specs.Verdicts.{done_of}
-use Rattle.value_fitting.specs.Fits.{optionFits}
-use Rattle.checked.proofs.Passed.{handed-passed}
-use Rattle.checked.proofs.Made.{stopped, first-stopped, handed-on}
+use Rattle.value_fitting.specs.Fits.{option_fits}
+use Rattle.checked.proofs.Passed.{handed_passed}
+use Rattle.checked.proofs.Made.{stopped, first_stopped, handed-on}
 use Rattle.checked.proofs.Shaped.{misshapen, shapely}
-use Rattle.value_making.proofs.Payloads.{none-zeros}
+use Rattle.value_making.proofs.Payloads.{none_zeros}
 use Rattle.value.proofs.constructors.none.Statement.{statement}
 use Rattle.value.proofs.constructors.none.Tie as tie
 
@@ -23,10 +23,10 @@ of s =
 
 -- The rung of the shape, and the bits of the record.
 abbrev shape : tie.Start → List Rung
-shape s = shaped (optionFits (of s) s.args.res)
+shape s = shaped (option_fits (of s) s.args.res)
 
 abbrev whole : tie.Start → List Bool
-whole s = noneBits (of s) s.args.res
+whole s = none_bits (of s) s.args.res
 
 -- The entry of the function, from the place where its first rungs were asked, and from the place where they have let it pass.
 abbrev entry : tie.After-result → tie.Start
@@ -52,27 +52,27 @@ returns : tie.Need-returns
 returns c =
     let s = entry c.before.before.before in
     let r = c.before.judged.given in
-    first-stopped (rungs s) (shape s) (whole s) s.args.out.now r.0.0.number r.0.0.place
+    first_stopped (rungs s) (shape s) (whole s) s.args.out.now r.0.0.number r.0.0.place
     (sym c.before.before.before.result.ensures ∙ ap done_of r.1)
 
 enum_told : tie.Need-enum-told
 enum_told c = search rules
 
 optional-requires : tie.Need-optional-requires
-optional-requires c κs = let s = start c in (handed-passed (of s) [] (s.args.res ∷ []) (passed c)).1.0
+optional-requires c κs = let s = start c in (handed_passed (of s) [] (s.args.res ∷ []) (passed c)).1.0
 
 returns-2 : tie.Need-returns-2
 returns-2 c =
     let o = c.before in
     let s = start o.before in
     let wrong = sym o.optional.ensures ∙ not-true o.optional.result c.if1.true in
-    let d = stopped (shape s) (whole s) s.args.out.now 7 0 (misshapen (optionFits (of s) s.args.res) wrong) in
+    let d = stopped (shape s) (whole s) s.args.out.now 7 0 (misshapen (option_fits (of s) s.args.res) wrong) in
     let h = handed-on (shape s) (whole s) s.args.out.now (rungs s) (passed o.before) in
     (d.0 ∙ h.0, d.1 ∙ h.1)
 
 blank-requires : tie.Need-blank-requires
 blank-requires c κs =
-    let e = c.before.before.before in let s = start e in (handed-passed (of s) [] (s.args.res ∷ []) (passed e)).1.0
+    let e = c.before.before.before in let s = start e in (handed_passed (of s) [] (s.args.res ∷ []) (passed e)).1.0
 
 same_length : tie.Need-same-length
 same_length c = search rules
@@ -83,8 +83,8 @@ returns-3 c =
     let s = start o.before in
     let out = s.args.out.now in
     let right = sym o.optional.ensures ∙ not-false o.optional.result c.before.before.before.before.if1.false in
-    let zeros = sym (none-zeros (of s) s.args.res right) in
-    let d = handed-on [] (whole s) out (shape s) (shapely (optionFits (of s) s.args.res) right) in
+    let zeros = sym (none_zeros (of s) s.args.res right) in
+    let d = handed-on [] (whole s) out (shape s) (shapely (option_fits (of s) s.args.res) right) in
     let h = handed-on (shape s) (whole s) out (rungs s) (passed o.before) in (
       c.before.before.blank.ensures.0 ∙ ap (λ (v : List Bool). makes [] v out) zeros ∙ d.0 ∙ h.0,
       c.before.before.blank.ensures.1 ∙ ap (λ (v : List Bool). made [] v out) zeros ∙ d.1 ∙ h.1,

@@ -7,10 +7,10 @@ use Rattle.meaning.specs.Tables.{Table, table}
 use Rattle.meaning.specs.Ladder.{accepted, Rung, ladder, Record, record_of, shaped}
 use Rattle.meaning.specs.RecordCalls.{handed}
 use Rattle.answers.specs.Verdicts.{done_of}
-use Rattle.value_fitting.specs.Fits.{wrapFits}
-use Rattle.value_making.specs.Wraps.{wrapBits}
-use Rattle.checked.proofs.Passed.{handed-passed}
-use Rattle.checked.proofs.Made.{first-stopped, handed-on}
+use Rattle.value_fitting.specs.Fits.{wrap_fits}
+use Rattle.value_making.specs.Wraps.{wrap_bits}
+use Rattle.checked.proofs.Passed.{handed_passed}
+use Rattle.checked.proofs.Made.{first_stopped, handed-on}
 use Rattle.value.proofs.constructors.one_side.Statement.{statement}
 use Rattle.value.proofs.constructors.one_side.Tie as tie
 
@@ -24,10 +24,10 @@ it s = record_of s.args.bytes.now s.args.offset s.args.node
 
 -- The rung of the shape, and the bits of the record.
 abbrev shape : tie.Start → List Rung
-shape s = shaped (wrapFits s.args.right (of s) s.args.node s.args.res)
+shape s = shaped (wrap_fits s.args.right (of s) s.args.node s.args.res)
 
 abbrev whole : tie.Start → List Bool
-whole s = wrapBits s.args.right (of s) (it s) s.args.res
+whole s = wrap_bits s.args.right (of s) (it s) s.args.res
 
 -- The entry of the function, from the place where its first rungs were asked, and from the place where they have let it pass.
 abbrev entry : tie.After-record-to → tie.Start
@@ -53,7 +53,7 @@ returns : tie.Need-returns
 returns c =
     let s = entry c.before.before.before in
     let r = c.before.judged.given in
-    first-stopped (rungs s) (shape s) (whole s) s.args.out.now r.0.0.number r.0.0.place
+    first_stopped (rungs s) (shape s) (whole s) s.args.out.now r.0.0.number r.0.0.place
     (sym c.before.before.before.record-to.ensures ∙ ap done_of r.1)
 
 enum_told : tie.Need-enum-told
@@ -62,7 +62,7 @@ enum_told c = search rules
 wrap-requires : tie.Need-wrap-requires
 wrap-requires c κs =
     let s = start c.before in
-    let p = handed-passed (of s) (it s ∷ []) (s.args.res ∷ []) (passed c.before) in (p.0.0, p.1.0)
+    let p = handed_passed (of s) (it s ∷ []) (s.args.res ∷ []) (passed c.before) in (p.0.0, p.1.0)
 
 same_length : tie.Need-same-length
 same_length c = search rules
@@ -74,8 +74,8 @@ returns-2 c =
     let h = handed-on (shape s) (whole s) s.args.out.now (rungs s) (passed e) in
     (c.before.before.wrap.ensures.0 ∙ h.0, c.before.before.wrap.ensures.1 ∙ h.1)
 
-pub one-side-spec : {M : Type 1} → statement M
-one-side-spec =
+pub one_side_spec : {M : Type 1} → statement M
+one_side_spec =
     tie.close
     (tie.spec
     record-to-requires

@@ -5,11 +5,11 @@ use mathlib.Core.List.{List, [], ◌∷◌}
 use borrow.Author.Rules.{rules}
 use Rattle.meaning.specs.Tables.{Table, table}
 use Rattle.meaning.specs.Ladder.{accepted, Rung, ladder, Record, record_of, shaped}
-use Rattle.meaning.specs.RecordCalls.{handed, productBits}
+use Rattle.meaning.specs.RecordCalls.{handed, product_bits}
 use Rattle.answers.specs.Verdicts.{done_of}
-use Rattle.value_fitting.specs.Fits.{joinFits}
-use Rattle.checked.proofs.Passed.{handed-passed}
-use Rattle.checked.proofs.Made.{first-stopped, handed-on}
+use Rattle.value_fitting.specs.Fits.{join_fits}
+use Rattle.checked.proofs.Passed.{handed_passed}
+use Rattle.checked.proofs.Made.{first_stopped, handed-on}
 use Rattle.value.proofs.constructors.product.Statement.{statement}
 use Rattle.value.proofs.constructors.product.Tie as tie
 
@@ -26,10 +26,10 @@ other s = record_of s.args.b-bytes.now s.args.b-offset s.args.b-node
 
 -- The rung of the shape, and the bits of the record.
 abbrev shape : tie.Start → List Rung
-shape s = shaped (joinFits (of s) s.args.a-node s.args.b-node s.args.res)
+shape s = shaped (join_fits (of s) s.args.a-node s.args.b-node s.args.res)
 
 abbrev whole : tie.Start → List Bool
-whole s = productBits (of s) (one s) (other s)
+whole s = product_bits (of s) (one s) (other s)
 
 -- The entry of the function, from the place where its first rungs were asked, and from the place where they have let it pass.
 abbrev entry : tie.After-two-to → tie.Start
@@ -55,7 +55,7 @@ returns : tie.Need-returns
 returns c =
     let s = entry c.before.before.before in
     let r = c.before.judged.given in
-    first-stopped (rungs s) (shape s) (whole s) s.args.out.now r.0.0.number r.0.0.place
+    first_stopped (rungs s) (shape s) (whole s) s.args.out.now r.0.0.number r.0.0.place
     (sym c.before.before.before.two_to.ensures ∙ ap done_of r.1)
 
 enum_told : tie.Need-enum-told
@@ -64,7 +64,7 @@ enum_told c = search rules
 join-requires : tie.Need-join-requires
 join-requires c κs =
     let s = start c.before in
-    let p = handed-passed (of s) (one s ∷ other s ∷ []) (s.args.res ∷ []) (passed c.before) in (p.0.0, (p.0.1.0, p.1.0))
+    let p = handed_passed (of s) (one s ∷ other s ∷ []) (s.args.res ∷ []) (passed c.before) in (p.0.0, (p.0.1.0, p.1.0))
 
 same_length : tie.Need-same-length
 same_length c = search rules
@@ -76,8 +76,8 @@ returns-2 c =
     let h = handed-on (shape s) (whole s) s.args.out.now (rungs s) (passed e) in
     (c.before.before.join.ensures.0 ∙ h.0, c.before.before.join.ensures.1 ∙ h.1)
 
-pub product-spec : {M : Type 1} → statement M
-product-spec =
+pub product_spec : {M : Type 1} → statement M
+product_spec =
     tie.close
     (tie.spec
     two-to-requires

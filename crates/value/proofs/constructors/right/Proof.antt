@@ -12,5 +12,5 @@ same_length c = search rules
 returns : tie.Need-returns
 returns c = c.before.before.one_side.ensures
 
-pub right-spec : {M : Type 1} → statement M
-right-spec = tie.close (tie.spec one-side-requires same_length returns)
+pub right_spec : {M : Type 1} → statement M
+right_spec = tie.close (tie.spec one-side-requires same_length returns)

@@ -4,15 +4,15 @@ use mathlib.Core.Bool.{Bool, true, ◌&&◌}
 use mathlib.Core.List.{List, [], ◌∷◌}
 use borrow.Author.Rules.{rules}
 use borrow.Author.Tests.{not-true, not-false}
-use Rattle.meaning.specs.Types.{same, rightSide}
+use Rattle.meaning.specs.Types.{same, right_side}
 use Rattle.meaning.specs.Tables.{Table, table}
 use Rattle.meaning.specs.Ladder.{accepted, Rung, ladder, Record, record_of, type_at, type_of, shaped, makes, made}
 use Rattle.meaning.specs.RecordCalls.{handed}
 use Rattle.answers.specs.Verdicts.{done_of}
-use Rattle.value_fitting.specs.Fits.{optionFits}
-use Rattle.value_making.specs.Wraps.{wrapBits}
-use Rattle.checked.proofs.Passed.{handed-passed}
-use Rattle.checked.proofs.Made.{stopped, first-stopped, handed-on}
+use Rattle.value_fitting.specs.Fits.{option_fits}
+use Rattle.value_making.specs.Wraps.{wrap_bits}
+use Rattle.checked.proofs.Passed.{handed_passed}
+use Rattle.checked.proofs.Made.{stopped, first_stopped, handed-on}
 use Rattle.checked.proofs.Shaped.{misshapen}
 use Rattle.value_making.proofs.Payloads.{some_fits}
 use Rattle.value.proofs.constructors.some.Statement.{statement}
@@ -28,13 +28,13 @@ it s = record_of s.args.bytes.now s.args.offset s.args.node
 
 -- The shape that is asked for, its rung, and the bits of the record.
 abbrev fits : tie.Start → Bool
-fits s = optionFits (of s) s.args.res && same (rightSide (type_at (of s) s.args.res)) (type_of (of s) (it s))
+fits s = option_fits (of s) s.args.res && same (right_side (type_at (of s) s.args.res)) (type_of (of s) (it s))
 
 abbrev shape : tie.Start → List Rung
 shape s = shaped (fits s)
 
 abbrev whole : tie.Start → List Bool
-whole s = wrapBits true (of s) (it s) s.args.res
+whole s = wrap_bits true (of s) (it s) s.args.res
 
 -- The entry of the function, from the place where its first rungs were asked, and from the place where they have let it pass.
 abbrev entry : tie.After-record-to → tie.Start
@@ -60,14 +60,14 @@ returns : tie.Need-returns
 returns c =
     let s = entry c.before.before.before in
     let r = c.before.judged.given in
-    first-stopped (rungs s) (shape s) (whole s) s.args.out.now r.0.0.number r.0.0.place
+    first_stopped (rungs s) (shape s) (whole s) s.args.out.now r.0.0.number r.0.0.place
     (sym c.before.before.before.record-to.ensures ∙ ap done_of r.1)
 
 enum_told : tie.Need-enum-told
 enum_told c = search rules
 
 optional-requires : tie.Need-optional-requires
-optional-requires c κs = let s = start c in (handed-passed (of s) (it s ∷ []) (s.args.res ∷ []) (passed c)).1.0
+optional-requires c κs = let s = start c in (handed_passed (of s) (it s ∷ []) (s.args.res ∷ []) (passed c)).1.0
 
 returns-2 : tie.Need-returns-2
 returns-2 c =
@@ -76,14 +76,14 @@ returns-2 c =
     let wrong = sym o.optional.ensures ∙ not-true o.optional.result c.if1.true in
     let d =
     stopped (shape s) (whole s) s.args.out.now 7 0
-    (misshapen (fits s) (ap (λ (x : Bool). x && same (rightSide (type_at (of s) s.args.res)) (type_of (of s) (it s))) wrong)) in
+    (misshapen (fits s) (ap (λ (x : Bool). x && same (right_side (type_at (of s) s.args.res)) (type_of (of s) (it s))) wrong)) in
     let h = handed-on (shape s) (whole s) s.args.out.now (rungs s) (passed o.before) in
     (d.0 ∙ h.0, d.1 ∙ h.1)
 
 wrap-requires : tie.Need-wrap-requires
 wrap-requires c κs =
     let e = c.before.before.before in let s = start e in
-    let p = handed-passed (of s) (it s ∷ []) (s.args.res ∷ []) (passed e) in (p.0.0, p.1.0)
+    let p = handed_passed (of s) (it s ∷ []) (s.args.res ∷ []) (passed e) in (p.0.0, p.1.0)
 
 same_length : tie.Need-same-length
 same_length c = search rules
@@ -100,8 +100,8 @@ returns-3 c =
       c.before.before.wrap.ensures.1 ∙ ap (λ (b : Bool). made (shaped b) (whole s) out) same_shape ∙ h.1,
     )
 
-pub some-spec : {M : Type 1} → statement M
-some-spec =
+pub some_spec : {M : Type 1} → statement M
+some_spec =
     tie.close
     (tie.spec
     record-to-requires

@@ -9,10 +9,10 @@ use Rattle.meaning.specs.Tables.{Table, table}
 use Rattle.meaning.specs.Ladder.{accepted, Rung, ladder, type_at, shaped}
 use Rattle.meaning.specs.RecordCalls.{handed}
 use Rattle.answers.specs.Verdicts.{done_of}
-use Rattle.checked.proofs.Passed.{handed-passed}
-use Rattle.checked.proofs.Made.{done, stopped, first-stopped, handed-on}
+use Rattle.checked.proofs.Passed.{handed_passed}
+use Rattle.checked.proofs.Made.{done, stopped, first_stopped, handed-on}
 use Rattle.checked.proofs.Shaped.{misshapen, shapely}
-use Rattle.checked.proofs.Nodes.{unit-test}
+use Rattle.checked.proofs.Nodes.{unit_test}
 use Rattle.value_making.proofs.Payloads.{nothing_written}
 use Rattle.value.proofs.constructors.unit.Statement.{statement}
 use Rattle.value.proofs.constructors.unit.Tie as tie
@@ -50,7 +50,7 @@ returns : tie.Need-returns
 returns c =
     let s = entry c.before.before.before in
     let r = c.before.judged.given in
-    first-stopped (rungs s) (shape s) [] s.args.out.now r.0.0.number r.0.0.place
+    first_stopped (rungs s) (shape s) [] s.args.out.now r.0.0.number r.0.0.place
     (sym c.before.before.before.result.ensures ∙ ap done_of r.1)
 
 enum_told : tie.Need-enum-told
@@ -58,14 +58,14 @@ enum_told c = search rules
 
 node-at-requires : tie.Need-node-at-requires
 node-at-requires c κs =
-    let s = start c in let h = (handed-passed (of s) [] (s.args.res ∷ []) (passed c)).1.0 in (h.sound, h.here)
+    let s = start c in let h = (handed_passed (of s) [] (s.args.res ∷ []) (passed c)).1.0 in (h.sound, h.here)
 
 returns-2 : tie.Need-returns-2
 returns-2 c =
     let n = c.before.before in
     let s = start n.before in
     let k = n.Node-at.result.kind in
-    let wrong = sym (unit-test (of s) s.args.res n.Node-at.result n.Node-at.ensures) ∙ ne_eqb k 0 c.if1.true in
+    let wrong = sym (unit_test (of s) s.args.res n.Node-at.result n.Node-at.ensures) ∙ ne_eqb k 0 c.if1.true in
     let d = stopped (shape s) [] s.args.out.now 7 0 (misshapen (is_unit (type_at (of s) s.args.res)) wrong) in
     let h = handed-on (shape s) [] s.args.out.now (rungs s) (passed n.before) in
     (d.0 ∙ h.0, d.1 ∙ h.1)
@@ -75,7 +75,7 @@ returns-3 c =
     let n = c.before.before in
     let s = start n.before in
     let k = n.Node-at.result.kind in
-    let right = sym (unit-test (of s) s.args.res n.Node-at.result n.Node-at.ensures) ∙ eq-eqb k 0 c.if1.false in
+    let right = sym (unit_test (of s) s.args.res n.Node-at.result n.Node-at.ensures) ∙ eq-eqb k 0 c.if1.false in
     let d = done (shape s) [] s.args.out.now (shapely (is_unit (type_at (of s) s.args.res)) right) zero-le 0 refl s.args.out.now (sym (nothing_written s.args.out.now)) in
     let h = handed-on (shape s) [] s.args.out.now (rungs s) (passed n.before) in
     (d.0 ∙ h.0, d.1 ∙ h.1)

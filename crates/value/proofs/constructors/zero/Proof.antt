@@ -4,10 +4,10 @@ use mathlib.Core.List.{List, [], ◌∷◌}
 use borrow.Author.Rules.{rules}
 use Rattle.meaning.specs.Tables.{Table, table}
 use Rattle.meaning.specs.Ladder.{accepted, Rung, ladder}
-use Rattle.meaning.specs.RecordCalls.{handed, zeroBits}
+use Rattle.meaning.specs.RecordCalls.{handed, zero_bits}
 use Rattle.answers.specs.Verdicts.{done_of}
-use Rattle.checked.proofs.Passed.{handed-passed}
-use Rattle.checked.proofs.Made.{first-stopped, handed-on}
+use Rattle.checked.proofs.Passed.{handed_passed}
+use Rattle.checked.proofs.Made.{first_stopped, handed-on}
 use Rattle.value.proofs.constructors.zero.Statement.{statement}
 use Rattle.value.proofs.constructors.zero.Tie as tie
 
@@ -40,14 +40,14 @@ returns : tie.Need-returns
 returns c =
     let s = entry c.before.before.before in
     let r = c.before.judged.given in
-    first-stopped (rungs s) [] (zeroBits (of s) s.args.res) s.args.out.now r.0.0.number r.0.0.place
+    first_stopped (rungs s) [] (zero_bits (of s) s.args.res) s.args.out.now r.0.0.number r.0.0.place
     (sym c.before.before.before.result.ensures ∙ ap done_of r.1)
 
 enum_told : tie.Need-enum-told
 enum_told c = search rules
 
 blank-requires : tie.Need-blank-requires
-blank-requires c κs = let s = start c.before in (handed-passed (of s) [] (s.args.res ∷ []) (passed c.before)).1.0
+blank-requires c κs = let s = start c.before in (handed_passed (of s) [] (s.args.res ∷ []) (passed c.before)).1.0
 
 same_length : tie.Need-same-length
 same_length c = search rules
@@ -56,11 +56,11 @@ returns-2 : tie.Need-returns-2
 returns-2 c =
     let e = c.before.before.before.before in
     let s = start e in
-    let h = handed-on [] (zeroBits (of s) s.args.res) s.args.out.now (rungs s) (passed e) in
+    let h = handed-on [] (zero_bits (of s) s.args.res) s.args.out.now (rungs s) (passed e) in
     (c.before.before.blank.ensures.0 ∙ h.0, c.before.before.blank.ensures.1 ∙ h.1)
 
-pub zero-spec : {M : Type 1} → statement M
-zero-spec =
+pub zero_spec : {M : Type 1} → statement M
+zero_spec =
     tie.close
     (tie.spec
     result-requires

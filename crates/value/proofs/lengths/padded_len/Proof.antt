@@ -6,9 +6,9 @@ use Rattle.meaning.specs.Types.{bits}
 use Rattle.meaning.specs.Tables.{Table, table}
 use Rattle.meaning.specs.Ladder.{accepted, Rung, ladder, Record, record_of, type_of}
 use Rattle.meaning.specs.RecordCalls.{handed}
-use Rattle.meaning.proofs.Ladders.{ladder-pass, ladder-stop}
+use Rattle.meaning.proofs.Ladders.{ladder_pass, ladder_stop}
 use Rattle.answers.specs.Verdicts.{done_of}
-use Rattle.checked.proofs.Passed.{handed-passed}
+use Rattle.checked.proofs.Passed.{handed_passed}
 use Rattle.value.proofs.lengths.padded_len.Statement.{statement}
 use Rattle.value.proofs.lengths.padded_len.Tie as tie
 
@@ -44,24 +44,24 @@ returns : tie.Need-returns
 returns c =
     let s = entry c.before.before.before in
     let r = c.before.judged.given in
-    sym (ladder-stop (rungs s) [] (tt {0}) (bits (type_of (of s) (it s))) r.0.0.number r.0.0.place
+    sym (ladder_stop (rungs s) [] (tt {0}) (bits (type_of (of s) (it s))) r.0.0.number r.0.0.place
     (sym c.before.before.before.«record».ensures ∙ ap done_of r.1))
 
 enum_told : tie.Need-enum-told
 enum_told c = search rules
 
 width-of-requires : tie.Need-width-of-requires
-width-of-requires c κs = let s = start c in (handed-passed (of s) (it s ∷ []) [] (passed c)).0.0.named
+width-of-requires c κs = let s = start c in (handed_passed (of s) (it s ∷ []) [] (passed c)).0.0.named
 
 returns-2 : tie.Need-returns-2
 unfolding ladder
 returns-2 c =
     let s = start c.before in
     ap accepted c.width_of_lem.ensures
-    ∙ sym (ladder-pass (rungs s) [] (tt {0}) (tt {0}) (bits (type_of (of s) (it s))) (passed c.before))
+    ∙ sym (ladder_pass (rungs s) [] (tt {0}) (tt {0}) (bits (type_of (of s) (it s))) (passed c.before))
 
-pub padded-len-spec : {M : Type 1} → statement M
-padded-len-spec =
+pub padded_len_spec : {M : Type 1} → statement M
+padded_len_spec =
     tie.close
     (tie.spec
     record-requires

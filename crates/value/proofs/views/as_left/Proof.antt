@@ -6,10 +6,10 @@ use borrow.Author.Rules.{rules}
 use Rattle.meaning.specs.Tables.{Table, table}
 use Rattle.meaning.specs.Ladder.{accepted, Rung, ladder, Record, record_of}
 use Rattle.meaning.specs.RecordCalls.{handed}
-use Rattle.meaning.proofs.Ladders.{ladder-pass, ladder-stop}
+use Rattle.meaning.proofs.Ladders.{ladder_pass, ladder_stop}
 use Rattle.answers.specs.Verdicts.{done_of}
-use Rattle.value_views.specs.Views.{payloadSpot, payloadRungs}
-use Rattle.checked.proofs.Passed.{handed-passed}
+use Rattle.value_views.specs.Views.{payload_spot, payload_rungs}
+use Rattle.checked.proofs.Passed.{handed_passed}
 use Rattle.value.proofs.views.as_left.Statement.{statement}
 use Rattle.value.proofs.views.as_left.Tie as tie
 
@@ -45,23 +45,23 @@ returns : tie.Need-returns
 returns c =
     let s = entry c.before.before.before in
     let r = c.before.judged.given in
-    sym (ladder-stop (rungs s) (payloadRungs false (of s) (it s)) (tt {0}) (payloadSpot false (of s) (it s)) r.0.0.number r.0.0.place
+    sym (ladder_stop (rungs s) (payload_rungs false (of s) (it s)) (tt {0}) (payload_spot false (of s) (it s)) r.0.0.number r.0.0.place
     (sym c.before.before.before.«record».ensures ∙ ap done_of r.1))
 
 enum_told : tie.Need-enum-told
 enum_told c = search rules
 
 payload-requires : tie.Need-payload-requires
-payload-requires c κs = let s = start c in (handed-passed (of s) (it s ∷ []) [] (passed c)).0.0
+payload-requires c κs = let s = start c in (handed_passed (of s) (it s ∷ []) [] (passed c)).0.0
 
 returns-2 : tie.Need-returns-2
 returns-2 c =
     let s = start c.before in
     c.payload.ensures
-    ∙ sym (ladder-pass (rungs s) (payloadRungs false (of s) (it s)) (tt {0}) (tt {0}) (payloadSpot false (of s) (it s)) (passed c.before))
+    ∙ sym (ladder_pass (rungs s) (payload_rungs false (of s) (it s)) (tt {0}) (tt {0}) (payload_spot false (of s) (it s)) (passed c.before))
 
-pub as-left-spec : {M : Type 1} → statement M
-as-left-spec =
+pub as_left_spec : {M : Type 1} → statement M
+as_left_spec =
     tie.close
     (tie.spec
     record-requires

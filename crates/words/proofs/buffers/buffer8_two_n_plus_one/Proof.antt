@@ -9,10 +9,10 @@ use borrow.Author.Rules.{rules}
 use Rattle.answers.specs.Verdicts.{done_of}
 use Rattle.meaning.specs.Tables.{Table, table}
 use Rattle.meaning.specs.Types.{same}
-use Rattle.meaning.specs.Words.{buffer, bufferBits}
+use Rattle.meaning.specs.Words.{buffer, buffer_bits}
 use Rattle.meaning.specs.Ladder.{accepted, Rung, ladder, named, type_at, ranged, shaped}
-use Rattle.checked.proofs.Passed.{named-passed}
-use Rattle.checked.proofs.Made.{first-stopped}
+use Rattle.checked.proofs.Passed.{named_passed}
+use Rattle.checked.proofs.Made.{first_stopped}
 use Rattle.words.proofs.buffers.buffer8_two_n_plus_one.Statement.{statement}
 use Rattle.words.proofs.buffers.buffer8_two_n_plus_one.Tie as tie
 
@@ -43,7 +43,7 @@ returns : tie.Need-returns
 returns c =
     let s = c.before.before.before.before.before.before.before.before.before.before in
     let r = c.before.judged.given.0.0 in
-    first-stopped (first s) (rest s) (bufferBits s.args.n s.args.«data».now) s.args.out.now r.number r.place
+    first_stopped (first s) (rest s) (buffer_bits s.args.n s.args.«data».now) s.args.out.now r.number r.place
     (sym c.before.before.before.named.ensures ∙ ap done_of c.before.judged.given.1)
 
 enum_told : tie.Need-enum-told
@@ -52,7 +52,7 @@ enum_told c = search rules
 make-buffer-requires : tie.Need-make-buffer-requires
 make-buffer-requires c κs =
     let s = c.before.before.before.before.before.before.before.before.before.before in
-    (named-passed (of s) (s.args.res ∷ []) (passed c.before)).1.0
+    (named_passed (of s) (s.args.res ∷ []) (passed c.before)).1.0
 
 same_length : tie.Need-same-length
 same_length c = search rules
@@ -60,7 +60,7 @@ same_length c = search rules
 returns-2 : tie.Need-returns-2
 returns-2 c = search rules
 
-pub buffer8-two-n-plus-one-spec : {M : Type 1} → statement M
-buffer8-two-n-plus-one-spec =
+pub buffer8_two_n_plus_one_spec : {M : Type 1} → statement M
+buffer8_two_n_plus_one_spec =
     tie.close
     (tie.spec named-requires enum-known-judged returns enum_told make-buffer-requires same_length returns-2)

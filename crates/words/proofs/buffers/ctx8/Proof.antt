@@ -6,10 +6,10 @@ use borrow.Author.Rules.{rules}
 use Rattle.answers.specs.Verdicts.{done_of}
 use Rattle.meaning.specs.Tables.{Table, table}
 use Rattle.meaning.specs.Types.{same}
-use Rattle.meaning.specs.Words.{ctx8, ctx8Bits}
+use Rattle.meaning.specs.Words.{ctx8, ctx8_bits}
 use Rattle.meaning.specs.Ladder.{accepted, Rung, ladder, named, type_at, ranged, shaped}
-use Rattle.checked.proofs.Passed.{named-passed}
-use Rattle.checked.proofs.Made.{first-stopped}
+use Rattle.checked.proofs.Passed.{named_passed}
+use Rattle.checked.proofs.Made.{first_stopped}
 use Rattle.words_states.specs.State.{state_of}
 use Rattle.words.proofs.buffers.ctx8.Statement.{statement}
 use Rattle.words.proofs.buffers.ctx8.Tie as tie
@@ -39,7 +39,7 @@ returns : tie.Need-returns
 returns c =
     let s = c.before.before.before.before.before.before.before.before.before in
     let r = c.before.judged.given.0.0 in
-    first-stopped (first s) (rest s) (ctx8Bits (state_of s.args.state)) s.args.out.now r.number r.place
+    first_stopped (first s) (rest s) (ctx8_bits (state_of s.args.state)) s.args.out.now r.number r.place
     (sym c.before.before.before.named.ensures ∙ ap done_of c.before.judged.given.1)
 
 enum_told : tie.Need-enum-told
@@ -48,7 +48,7 @@ enum_told c = search rules
 make-state-requires : tie.Need-make-state-requires
 make-state-requires c κs =
     let s = c.before.before.before.before.before.before.before.before.before in
-    (named-passed (of s) (s.args.res ∷ []) (passed c.before)).1.0
+    (named_passed (of s) (s.args.res ∷ []) (passed c.before)).1.0
 
 same_length : tie.Need-same-length
 same_length c = search rules
@@ -56,7 +56,7 @@ same_length c = search rules
 returns-2 : tie.Need-returns-2
 returns-2 c = search rules
 
-pub ctx8-spec : {M : Type 1} → statement M
-ctx8-spec =
+pub ctx8_spec : {M : Type 1} → statement M
+ctx8_spec =
     tie.close
     (tie.spec named-requires enum-known-judged returns enum_told make-state-requires same_length returns-2)

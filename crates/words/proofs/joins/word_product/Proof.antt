@@ -6,9 +6,9 @@ use Rattle.answers.specs.Verdicts.{done_of}
 use Rattle.meaning.specs.Tables.{Table, table}
 use Rattle.meaning.specs.Words.{joins}
 use Rattle.meaning.specs.Ladder.{accepted, Rung, ladder, Record, record_of, type_at, type_of, shaped}
-use Rattle.meaning.specs.RecordCalls.{handed, productBits}
-use Rattle.checked.proofs.Passed.{handed-passed}
-use Rattle.checked.proofs.Made.{first-stopped}
+use Rattle.meaning.specs.RecordCalls.{handed, product_bits}
+use Rattle.checked.proofs.Passed.{handed_passed}
+use Rattle.checked.proofs.Made.{first_stopped}
 use Rattle.words.proofs.joins.word_product.Statement.{statement}
 use Rattle.words.proofs.joins.word_product.Tie as tie
 
@@ -43,7 +43,7 @@ returns : tie.Need-returns
 returns c =
     let s = c.before.before.before.before.before.before.before.before.before.before.before in
     let r = c.before.judged.given.0.0 in
-    first-stopped (first s) (rest s) (productBits (of s) (one s) (other s)) s.args.out.now r.number r.place
+    first_stopped (first s) (rest s) (product_bits (of s) (one s) (other s)) s.args.out.now r.number r.place
     (sym c.before.before.before.two_to.ensures ∙ ap done_of c.before.judged.given.1)
 
 enum_told : tie.Need-enum-told
@@ -52,7 +52,7 @@ enum_told c = search rules
 join-words-requires : tie.Need-join-words-requires
 join-words-requires c κs =
     let s = c.before.before.before.before.before.before.before.before.before.before.before in
-    let p = handed-passed (of s) (one s ∷ other s ∷ []) (s.args.res ∷ []) (passed c.before) in
+    let p = handed_passed (of s) (one s ∷ other s ∷ []) (s.args.res ∷ []) (passed c.before) in
     (p.0.0, (p.0.1.0, p.1.0))
 
 same_length : tie.Need-same-length
@@ -61,7 +61,7 @@ same_length c = search rules
 returns-2 : tie.Need-returns-2
 returns-2 c = search rules
 
-pub word-product-spec : {M : Type 1} → statement M
-word-product-spec =
+pub word_product_spec : {M : Type 1} → statement M
+word_product_spec =
     tie.close
     (tie.spec two-to-requires enum-known-judged returns enum_told join-words-requires same_length returns-2)

@@ -8,10 +8,10 @@ use borrow.Author.Rules.{rules}
 use borrow.Author.Tests.{ltb-true}
 use Rattle.meaning.specs.Tables.{Table, table}
 use Rattle.meaning.specs.Bits.{bits_of}
-use Rattle.meaning.specs.Words.{isWord}
+use Rattle.meaning.specs.Words.{is_word}
 use Rattle.meaning.specs.Ladder.{makes, made, type_at}
-use Rattle.meaning.specs.WordCalls.{fromRange}
-use Rattle.words_laws.proofs.Ranges.{exponent-most, exponent-bytes}
+use Rattle.meaning.specs.WordCalls.{from_range}
+use Rattle.words_laws.proofs.Ranges.{exponent_most, exponent_bytes}
 use Rattle.words.proofs.words.from_byte_array.Statement.{statement}
 use Rattle.words.proofs.words.from_byte_array.Tie as tie
 
@@ -26,13 +26,13 @@ exponent-of-requires c κs = search rules
 add-bytes-word : tie.Need-overflow-add-bytes-word
 add-bytes-word c =
     let e = c.exponent-of.ensures in
-    let m = exponent-most (length c.before.before.before.before.before.before.before.args.bytes.now) in
+    let m = exponent_most (length c.before.before.before.before.before.before.before.args.bytes.now) in
     record { fits = omega arith }
 
 bytes-word-requires : tie.Need-bytes-word-requires
 bytes-word-requires c κs =
     λ h.
-    exponent-bytes c.before.exponent-of.result (length c.before.before.before.before.before.before.before.before.args.bytes.now) c.before.exponent-of.ensures
+    exponent_bytes c.before.exponent-of.result (length c.before.before.before.before.before.before.before.before.args.bytes.now) c.before.exponent-of.ensures
     (ltb-true c.before.exponent-of.result 29 h)
 
 same_length : tie.Need-same-length
@@ -45,11 +45,11 @@ returns c =
     let e = c.before.before.before.before.exponent-of.ensures in
     let given = bits_of a.bytes.now in (
       c.before.before.bytes_word.ensures.0
-          ∙ ap (λ (k : ℕ). makes (fromRange (of s) a.result (ltb k 29) (isWord (3 + k) (type_at (of s) a.result))) given a.out.now) e,
+          ∙ ap (λ (k : ℕ). makes (from_range (of s) a.result (ltb k 29) (is_word (3 + k) (type_at (of s) a.result))) given a.out.now) e,
       c.before.before.bytes_word.ensures.1
-          ∙ ap (λ (k : ℕ). made (fromRange (of s) a.result (ltb k 29) (isWord (3 + k) (type_at (of s) a.result))) given a.out.now) e,
+          ∙ ap (λ (k : ℕ). made (from_range (of s) a.result (ltb k 29) (is_word (3 + k) (type_at (of s) a.result))) given a.out.now) e,
     )
 
-pub from-byte-array-spec : {M : Type 1} → statement M
-from-byte-array-spec =
+pub from_byte_array_spec : {M : Type 1} → statement M
+from_byte_array_spec =
     tie.close (tie.spec exponent-of-requires add-bytes-word bytes-word-requires same_length returns)
