@@ -3,6 +3,8 @@
 // copied and cleared), `bits_numbers` (numbers) and `bits_compare` (runs compared).
 // The functions of these crates rely on what a public call has checked, so they are no part of the library's interface: what is `pub` is so
 // only since a crate above calls it. Each contract speaks of the bits of the bytes alone; how many bytes there are does not change.
+#![tactic(auto)]
+
 ghost use Rattle.std.specs.Prelude.{◌≡◌, false, ◌+◌, ◌-◌, ◌*◌, ◌/◌, ◌%◌, ◌^◌, ◌<◌, ◌≤◌, ◌++◌, length, get_or, set, take, drop};
 ghost use Rattle.std.proofs.Math.Seq.{paste};
 ghost use Rattle.meaning.specs.Bits.{bits_of, to_bits, room};

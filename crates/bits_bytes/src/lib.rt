@@ -1,6 +1,8 @@
 // Whole bytes of a destination: copied, cleared, written from a number. Each loop does one thing to a byte and no more, so that the compiler
 // can take many bytes at a time. Inner: a public call has checked that the runs lie within their bytes; what is `pub` is so only since
 // `bits_runs` and `bits_numbers` call it.
+#![tactic(auto)]
+
 ghost use Rattle.std.specs.Prelude.{◌≡◌, ◌+◌, ◌*◌, ◌%◌, ◌≤◌, length, drop};
 ghost use Rattle.std.proofs.Math.Seq.{paste};
 ghost use Rattle.meaning.specs.Bits.{bits_of, to_bits, zeros};

@@ -1,4 +1,6 @@
 // Runs of bits compared. Inner: a public call has checked that the runs lie within their bytes.
+#![tactic(auto)]
+
 ghost use Rattle.std.specs.Prelude.{◌≡◌, ◌*◌, ◌<◌, min, take, drop};
 ghost use Rattle.meaning.specs.Bits.{bits_of};
 ghost use Rattle.meaning.specs.Records.{same_bits, order_bits};

@@ -1,5 +1,7 @@
 // The rungs 2 to 5 of one record or one node by number, for `checked_rungs`. Inner: the count is at most 1,024, and the groups
 // reach it.
+#![tactic(auto)]
+
 ghost use Rattle.std.specs.Prelude.{◌≡◌, false, ◌+◌, ◌*◌, ◌<◌, ◌≤◌, min, length, get_or, ltb, leb};
 ghost use Rattle.meaning.specs.Groups.{group_size, fact_in};
 ghost use Rattle.answers.specs.Verdicts.{done_of};

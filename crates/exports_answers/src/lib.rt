@@ -1,5 +1,7 @@
 // An answer as it crosses to C: number and place as one number, and what was accepted stored where the caller lends room for it. A refusal
 // stores nothing. Inner: a refusal's place is a node or an offset of a table's file, so that number and place fit 64 bits.
+#![tactic(auto)]
+
 ghost use Rattle.std.specs.Prelude.{◌≡◌, cond, ◌++◌, ◌+◌, ◌*◌, ◌<◌, length, drop, ltb};
 ghost use Rattle.meaning.specs.Tables.{digit};
 ghost use Rattle.answers.specs.Verdicts.{done_of, count_of, flag_of, sides_of, facts_of, spot_of, spots_of, order, order_of};

@@ -1,5 +1,7 @@
 // The class of a node, found along chains: the nodes of their own class whose keys (kind, class of the left side, class of the right side)
 // fall into one slot of a hash. Keys that all collide only make it slow.
+#![tactic(auto)]
+
 ghost use Rattle.std.specs.Prelude.{◌≡◌, ◌+◌, ◌*◌, ◌<◌};
 ghost use Rattle.meaning.specs.Tables.{Columns, columns, class_of};
 ghost use Rattle.facts_classes.specs.Chains.{slot, slot_at, Last, Keyed, Chained};

@@ -1,4 +1,6 @@
 // The entries of a lent table: whether one is right, and the first wrong one.
+#![tactic(auto)]
+
 ghost use Rattle.std.specs.Prelude.{◌≡◌};
 ghost use Rattle.meaning.specs.Tables.{columns, sides_right, first_bad_entry};
 ghost use Rattle.facts_entries.specs.Reach.{Reach};

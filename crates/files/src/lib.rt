@@ -1,5 +1,7 @@
 // The file form of a type table: whether a file is sound, where the first fault of another stands, and the nodes of a sound one.
 // `judge_file` only reads; `write_columns` is for a file that was judged sound and columns that reach its count.
+#![tactic(auto)]
+
 ghost use Rattle.std.specs.Prelude.{◌≡◌, ◌≤◌};
 ghost use Rattle.meaning.specs.Tables.{columns};
 ghost use Rattle.meaning.specs.Files.{entry_from, table_in};

@@ -1,4 +1,6 @@
 // The numbers of a table's file: one at an offset, one below a limit, and the count of nodes.
+#![tactic(auto)]
+
 ghost use Rattle.std.specs.Prelude.{◌≡◌, ltb};
 ghost use Rattle.meaning.specs.Tables.{count_right};
 ghost use Rattle.meaning.specs.Files.{number_at, number};

@@ -1,5 +1,7 @@
 // The facts of a node in its group of bytes: width in 8 bytes, size in 8, padded in 1, class in 2, least length in 8, numbers low byte first.
 // Inner: a group must be there, which every public call checks first.
+#![tactic(auto)]
+
 ghost use Rattle.std.specs.Prelude.{◌≡◌, ◌+◌, ◌*◌, ◌≤◌, length, drop, get_or};
 ghost use Rattle.std.proofs.Math.Seq.{paste};
 ghost use Rattle.meaning.specs.Groups.{low, low_bytes, group, group_size};

@@ -1,5 +1,7 @@
 // The text of a report, written into a lent buffer: lines, and the whole report of a table or of a refusal.
 // Each function says which text stands at its offset afterwards and answers the offset after it; the rest of the buffer stays.
+#![tactic(auto)]
+
 ghost use Rattle.std.specs.Prelude.{◌+◌, ◌≤◌, length};
 ghost use Rattle.lines_digits.specs.Report.{head_line, node_line, refusal_line, groups_text};
 ghost use Rattle.lines_digits.specs.Buffer.{PutAt, Printed};

@@ -1,5 +1,7 @@
 // The parts of a report's lines, written into a lent buffer: numbers, words and the words of kinds.
 // Each function says which text stands at its offset afterwards and answers the offset after it; the rest of the buffer stays.
+#![tactic(auto)]
+
 ghost use Rattle.std.specs.Prelude.{◌+◌, ◌≤◌, [], ◌∷◌, ◌++◌, length};
 ghost use Rattle.lines_digits.specs.Report.{ascii, decimal, kind_word};
 ghost use Rattle.lines_digits.specs.Buffer.{PutAt};

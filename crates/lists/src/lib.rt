@@ -1,6 +1,8 @@
 // Reading a list of recorded answers: its bytes, numbers and runs, and the cases that are made of them. The form of a list stands at the head of
 // oracle/src/bin/record.rs. Each function reads the part at a position and answers where the next one starts. A part that the list does not hold
 // starts one past its end, and so does every part after it: a caller that reads many parts looks once, at the last.
+#![tactic(auto)]
+
 mod comparing;
 mod requests;
 

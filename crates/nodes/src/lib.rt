@@ -1,5 +1,7 @@
 // Reading one node of a checked table, for the walkers above, and the side of it that a tag takes. Inner: the table must be sound, which every
 // public call checks first.
+#![tactic(auto)]
+
 ghost use Rattle.std.specs.Prelude.{◌≡◌, ◌<◌};
 ghost use Rattle.meaning.specs.Tables.{table};
 ghost use Rattle.meaning.specs.Checked.{Sound};

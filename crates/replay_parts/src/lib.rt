@@ -1,4 +1,6 @@
 // The parts of a case: the bytes that its call is handed, and whether what the call has left is what the case expects.
+#![tactic(auto)]
+
 mod columns;
 
 ghost use Rattle.std.specs.Prelude.{◌≤◌, length};

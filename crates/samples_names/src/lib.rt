@@ -1,4 +1,6 @@
 // The names of the calls, by their numbers in include/calls.list, from which tools/calls writes this file.
+#![tactic(auto)]
+
 use libc::STDOUT_FILENO;
 
 // Calls 0 to 9; any other number is the last of them.

@@ -1,0 +1,15 @@
+-- `exports_answers::tell_flag` meets its contract: each arm by what the answer is there. Assumes nothing.
+use borrow.Author.Rules.{rules}
+use mathlib.Core.Path.{ap}
+use Rattle.meaning.specs.Tables.{digit}
+use Rattle.answers.specs.Verdicts.{flag_of}
+use Rattle.exports_answers.proofs.Crossing.{refused_near, refused_value}
+use Rattle.exports_answers.proofs.tell_flag.Goals as goal
+
+pub refusal_code-requires : goal.refusal_code-requires
+refusal_code-requires c =
+    refused_near (flag_of c.args.answer) _ _ (ap flag_of c.in-Refused.is) c.requires
+
+pub returns-in-Refused : goal.returns-in-Refused
+returns-in-Refused c =
+    refused_value digit (flag_of c.args.answer) _ _ _ c.args.value.now (ap flag_of c.in-Refused.is) c.refusal_code.ensures

@@ -1,0 +1,24 @@
+-- `lines::report` meets its contract. The loop's invariant: after the first line stand the lines of the first k nodes, each within
+-- its room. The measure is how many are left. Assumes nothing.
+use Prim.Native.Nat.{◌+◌, ◌*◌, ◌-◌, ◌≤◌, ◌<◌}
+use mathlib.Core.Path.{◌≡◌, refl, ap, sym, ◌∙◌}
+use mathlib.Core.List.{◌++◌}
+use native.Mathlib.Omega.{arith}
+use lib.ListN.{length, get_or}
+use borrow.Author.Rules.{rules}
+use Rattle.meaning.specs.Groups.{group_size}
+use Rattle.meaning.specs.Tables.{facts_in}
+use Rattle.lines_digits.specs.Report.{head_line, node_line, line_in, lines_to}
+use Rattle.lines_digits.specs.Buffer.{PutAt}
+use Rattle.lines_digits.proofs.Puts.{wrote_then, wrote_text, wrote_none, printed}
+use Rattle.lines.specs.Room.{head_room, line_room}
+use Rattle.lines.proofs.Lines.{head-room, line-room, lines_more}
+use Rattle.lines.proofs.report.Given as goal
+
+abbrev pub invariant-loop-k : goal.invariant-loop-k
+invariant-loop-k l =
+    (l.k ≤ l.count) × (l.at ≤ l.initial.at + l.k * line_room) × PutAt l.initial.out l.initial.at (lines_to (line_in l.kinds (facts_in l.groups)) l.k) l.out l.at × (length l.out ≡ length l.initial.out)
+
+abbrev pub decreases-loop-k : goal.decreases-loop-k
+decreases-loop-k l =
+    l.count - l.k
