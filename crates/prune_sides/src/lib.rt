@@ -7,7 +7,7 @@ ghost use Rattle.prune_sides.specs.Sides.{UnderTag, Sums, TakenSide};
 use nodes::Node;
 
 // The payload under a tag: its node, and how many bits of tag and padding stand before it.
-#[derive(Drop)]
+#[derive(Clone, Copy)]
 pub struct Payload {
     pub node: usize,
     pub before: usize,
@@ -26,7 +26,7 @@ fn under_tag(n: Node, tag: bool) -> Payload
 }
 
 // The tag of a record, and the payloads under it in the record and in the target.
-#[derive(Drop)]
+#[derive(Clone, Copy)]
 pub struct Taken {
     pub tag: bool,
     pub given: Payload,
