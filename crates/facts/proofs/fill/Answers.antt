@@ -50,7 +50,7 @@ room c =
 
 -- The turn, from where facts were found.
 abbrev turn : After-facts_at → In-loop
-turn c = c.before.before.before.before
+turn c = c.before.before.before
 
 pub loop-n-init : goal.loop-n-init
 loop-n-init c =
@@ -75,7 +75,7 @@ pub overflow_cast-f : goal.overflow_cast-f
 overflow_cast-f c =
     let f = c.before.before.before in
     let t = turn f in
-    omega (arith, c.facts_at-f.ensures.class_is, class_le (cols t.before) t.before.loop.n, room t)
+    omega (arith, c.facts_at-f.ensures.class_is, class_le (cols t.before) t.before.loop-n.n, room t)
 
 pub put_facts-requires : goal.put_facts-requires
 put_facts-requires c =
@@ -86,7 +86,7 @@ chain-requires c =
     let f = c.before.before.before.before.before.before.before.before in
     let t = turn f in
     let l = t.before in
-    let n = l.loop.n in
+    let n = l.loop-n.n in
     let b = slot_below (kind (cols l) n) (class_of (cols l) (left (cols l) n)) (class_of (cols l) (right (cols l) n)) in
     (omega (arith, c.facts_at-f.ensures.slot_is), omega (arith, room t))
 
@@ -100,10 +100,10 @@ loop-n-preserved c =
     let t = turn f in
     let l = t.before in
     let derived = c.facts_at-f.ensures in (
-      omega (arith, t.loop-test.taken),
-      filled_more (cols l) l.loop.n (old l) l.loop.groups l.loop.inv.1 _ c.facts_at-f.result derived
+      omega (arith, t.loop-n-test.true),
+      filled_more (cols l) l.loop-n.n (old l) l.loop-n.groups l.loop-n.invariant.1 _ c.facts_at-f.result derived
           c.put_facts.ensures,
-      c.chain.ensures (cols l) l.loop.inv.2 derived.class_is derived.slot_is,
+      c.chain.ensures (cols l) l.loop-n.invariant.2 derived.class_is derived.slot_is,
     )
 
 pub shape_of-groups : goal.shape_of-groups

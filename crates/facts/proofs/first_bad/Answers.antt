@@ -58,16 +58,16 @@ abbrev found : After-facts_at → At-loop
 found c = tested c.before.before.before.before
 
 -- The entry that passed its test is right.
-passed : (c : Else1) → let l = tested c.before in entry_right (cols l) l.loop.n ≡ true
+passed : (c : Else1) → let l = tested c.before in entry_right (cols l) l.loop-n.n ≡ true
 unfolding entry_right
-passed c = sym c.entry_right.ensures ∙ not-false c.entry_right.result c.if-not-entry_right.false
+passed c = sym c.entry_right.ensures ∙ c.if-not-entry_right.false
 
 -- What the comparison of the facts says of the node.
-compared : (c : After-agrees) → let l = found c.before in c.agrees.result ≡ facts_right (cols l) (fcts l) l.loop.n
+compared : (c : After-agrees) → let l = found c.before in c.agrees.result ≡ facts_right (cols l) (fcts l) l.loop-n.n
 compared c = c.agrees.ensures (cols (found c.before)) c.facts_at-f.ensures
 
 -- The loop's test, from where facts were found.
-below : (c : After-facts_at) → let l = found c in l.loop.n < (begun l).args.count
+below : (c : After-facts_at) → let l = found c in l.loop-n.n < (begun l).args.count
 below c = c.loop-n-test.true
 
 pub loop-n-init : goal.loop-n-init
@@ -82,18 +82,18 @@ pub returns-then-not-entry_right : goal.returns-then-not-entry_right
 unfolding entry_right
 returns-then-not-entry_right c =
     let l = tested c.before.before in
-    bad_here (whole l) l.loop.n c.loop-n-test.true l.loop.inv.1
-    (and_no_left (entry_right (cols l) l.loop.n) (facts_right (cols l) (fcts l) l.loop.n)
+    bad_here (whole l) l.loop-n.n c.loop-n-test.true l.loop-n.invariant.1
+    (and_no_left (entry_right (cols l) l.loop-n.n) (facts_right (cols l) (fcts l) l.loop-n.n)
     (sym c.entry_right.ensures ∙ c.if-not-entry_right.true))
 
 pub facts_at-f-requires : goal.facts_at-f-requires
 facts_at-f-requires c =
     let l = tested c.before.before.before.before in
     record {
-      reach = more_reach (cols l) (begun l).args.groups.now (begun l).args.count (l.loop.n + 1) (begun l).requires (omega arith);
-      known = l.loop.inv.1;
+      reach = more_reach (cols l) (begun l).args.groups.now (begun l).args.count (l.loop-n.n + 1) (begun l).requires (omega arith);
+      known = l.loop-n.invariant.1;
       entry = passed c.before.before.before;
-      chained = l.loop.inv.2;
+      chained = l.loop-n.invariant.2;
     }
 
 pub agrees-requires : goal.agrees-requires
@@ -103,15 +103,15 @@ agrees-requires c =
 pub returns-then-not-agrees : goal.returns-then-not-agrees
 returns-then-not-agrees c =
     let l = found c.before.before.before in
-    bad_here (whole l) l.loop.n (below c.before.before.before) l.loop.inv.1
-    (and_no_right (entry_right (cols l) l.loop.n) (facts_right (cols l) (fcts l) l.loop.n)
+    bad_here (whole l) l.loop-n.n (below c.before.before.before) l.loop-n.invariant.1
+    (and_no_right (entry_right (cols l) l.loop-n.n) (facts_right (cols l) (fcts l) l.loop-n.n)
     (sym (compared c.before.before) ∙ c.if-not-agrees.true))
 
 pub chain-requires : goal.chain-requires
 chain-requires c =
     let f = c.before.before.before.before.before in
     let l = found f in
-    let n = l.loop.n in
+    let n = l.loop-n.n in
     let b = slot_below (kind (cols l) n) (class_of (cols l) (left (cols l) n)) (class_of (cols l) (right (cols l) n)) in
     (omega (arith, c.facts_at-f.ensures.slot_is), omega (arith, below f, (begun l).requires.few))
 
@@ -126,9 +126,9 @@ loop-n-preserved c =
     let l = found f in
     let derived = c.facts_at-f.ensures in (
       omega (arith, below f),
-      known_more (cols l) (fcts l) l.loop.n l.loop.inv.1 (passed f.before.before.before)
+      known_more (cols l) (fcts l) l.loop-n.n l.loop-n.invariant.1 (passed f.before.before.before)
           (sym (compared c.before.before.before.before.before) ∙ c.if-not-agrees.false),
-      c.chain.ensures (cols l) l.loop.inv.2 derived.class_is derived.slot_is,
+      c.chain.ensures (cols l) l.loop-n.invariant.2 derived.class_is derived.slot_is,
     )
 
 pub returns : goal.returns
