@@ -1,5 +1,7 @@
 // A buffer that holds data.
 // Inner: a public call has checked the table and the result's node.
+#![tactic(auto)]
+
 ghost use Rattle.std.specs.Prelude.{◌≡◌};
 ghost use Rattle.meaning.specs.Tables.{table};
 ghost use Rattle.meaning.specs.WordCalls.{buffer_call, buffer_out};

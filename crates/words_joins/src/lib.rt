@@ -1,5 +1,7 @@
 // Two words of one type, as the next word.
 // Inner: a public call has checked the table, the records and the result's node.
+#![tactic(auto)]
+
 ghost use Rattle.std.specs.Prelude.{◌≡◌, cond};
 ghost use Rattle.meaning.specs.Types.{bits};
 ghost use Rattle.meaning.specs.Tables.{table};

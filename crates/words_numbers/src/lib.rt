@@ -1,5 +1,7 @@
 // Words of a number: the ladder's 1 to 4 for the result's node, 6 for a number outside its range, 7 for a result that is another type, and 9.
 // Inner: the public call says which word.
+#![tactic(auto)]
+
 ghost use Rattle.std.specs.Prelude.{◌≡◌, ◌<◌, ◌≤◌};
 ghost use Rattle.meaning.specs.Tables.{table};
 ghost use Rattle.meaning.specs.Bits.{to_bits, written};

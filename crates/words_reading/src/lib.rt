@@ -1,5 +1,7 @@
 // A word that is read from a stream.
 // Inner: a public call has checked the table, the stream and the node.
+#![tactic(auto)]
+
 ghost use Rattle.std.specs.Prelude.{◌≡◌};
 ghost use Rattle.meaning.specs.Tables.{table};
 ghost use Rattle.meaning.specs.Ladder.{stream_of};

@@ -1,4 +1,6 @@
 // A buffer's segments, from n down, each with its tag. Inner: n is at most 12 and the output has room.
+#![tactic(auto)]
+
 ghost use Rattle.std.specs.Prelude.{◌≡◌, ◌+◌, ◌*◌, ◌^◌, ◌<◌, ◌≤◌};
 ghost use Rattle.std.proofs.Math.Seq.{paste};
 ghost use Rattle.meaning.specs.Types.{bits};

@@ -1,5 +1,7 @@
 // The hash state, and its record.
 // Inner: a public call has checked the table and the result's node.
+#![tactic(auto)]
+
 ghost use Rattle.std.specs.Prelude.{◌≡◌, ◌≤◌, length};
 ghost use Rattle.meaning.specs.Tables.{table};
 ghost use Rattle.meaning.specs.Bits.{written};
