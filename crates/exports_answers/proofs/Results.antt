@@ -6,7 +6,7 @@
 use Prim.Native.Nat.{ℕ, ◌/◌, ◌%◌, ◌≤◌, ◌<◌}
 use mathlib.Core.Path.{◌≡◌}
 use native.Mathlib.Omega.{arith}
-use Rattle.meaning.specs.Ladder.{Answer, refused}
+use Rattle.meaning.specs.Ladder.{refused}
 use Rattle.exports_answers.specs.Codes.{code}
 
 -- The results of refusals, whatever would have been accepted.

@@ -18,22 +18,22 @@
 --   present_pass                a call that names nodes of a sound table passes 1 and 2
 --   kept_refused kept_accepted  a buffer after a refusal, and after an accepted call
 -- Assumes nothing.
-use Prim.Native.Nat.{ℕ, zero, suc, ◌≤◌, ◌<◌}
-use mathlib.Core.Path.{◌≡◌, refl, ap, ap₂, sym, ◌∙◌, subst}
-use mathlib.Core.Bool.{Bool, true, false, not, ◌&&◌, true≢false, false≢true}
+use Prim.Native.Nat.{ℕ, ◌≤◌, ◌<◌}
+use mathlib.Core.Path.{◌≡◌, refl, ap, ap₂, sym, ◌∙◌}
+use mathlib.Core.Bool.{Bool, true, false, not, ◌&&◌, true≢false}
 use mathlib.Core.List.{List, [], ◌∷◌, ◌++◌}
 use native.Mathlib.Omega.{arith}
 use native.Mathlib.Nat.{le_of_eq}
 use lib.Dec.{ltb, leb}
 use lib.ListN.{length}
-use borrow.Author.Tests.{ltb-true, ltb-false, leb-true, le-leb, le-ltb, lt-leb, not-true, not-false}
+use borrow.Author.Tests.{ltb-false, leb-true, le-leb, le-ltb, lt-leb, not-false}
 use Rattle.meaning.specs.Choice.{any, least}
 use Rattle.meaning.specs.Tables.{Table, count_right, columns_reach, facts_reach, reaches, entry_right, facts_right, first_bad}
 use Rattle.meaning.specs.Ladder.{Answer, refused, accepted, Rung, rung, ladder, kept, sound, present}
 use Rattle.meaning.specs.Checked.{Sound}
 use Rattle.meaning.specs.TypeCalls.{check_table_call}
-use Rattle.meaning.proofs.Tests.{and_left, and_right, and_both}
-use Rattle.meaning.proofs.Choices.{least_le, least_before, least_none, In, any_none}
+use Rattle.meaning.proofs.Tests.{and_left, and_right}
+use Rattle.meaning.proofs.Choices.{least_before, least_none, In, any_none}
 
 -- What an answer is: a code that tells the two cases apart.
 abbrev is_accepted : {A : Type 0} → Answer A → Bool

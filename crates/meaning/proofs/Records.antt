@@ -10,16 +10,15 @@
 --   unpadded_compact            a record of an unpadded type is its own compact bits
 --   same_bits bits_same         equality of bits
 -- Assumes nothing.
-use Prim.Native.Nat.{ℕ, zero, suc, ◌+◌, ◌-◌, ◌≤◌, ◌<◌, max, min}
-use mathlib.Core.Path.{◌≡◌, refl, ap, ap₂, sym, ◌∙◌, subst}
-use mathlib.Core.Bool.{Bool, true, false, not, cond, ◌&&◌, ◌||◌, beq, false≢true, true≢false}
+use Prim.Native.Nat.{ℕ, zero, suc, ◌+◌, ◌≤◌, ◌<◌, max}
+use mathlib.Core.Path.{◌≡◌, refl, ap, ap₂, sym, ◌∙◌}
+use mathlib.Core.Bool.{Bool, true, false, not, cond, ◌||◌, beq, false≢true}
 use mathlib.Core.List.{List, [], ◌∷◌, ◌++◌}
 use native.Mathlib.Omega.{arith}
 use lib.Dec.{eqb}
-use lib.ListN.{length, take, drop, get_or, replicate, length-take, length-drop, length-append, length-replicate, take-append-drop}
+use lib.ListN.{length, drop, length-take, length-drop, length-append, length-replicate, take-append-drop}
 use borrow.Author.Tests.{eqb-true, not-false}
 use Rattle.meaning.specs.Types.{Ty, unit, sum, prod, bits, width, padded, top}
-use Rattle.meaning.specs.Bits.{zeros}
 use Rattle.meaning.specs.Records.{tag, pad_left, pad_right, left_of, right_of, first_of, second_of, in_left, in_right, compact, same_bits}
 use Rattle.meaning.proofs.Tests.{and_left, and_right, and_both, or_false_left, or_false_right}
 use Rattle.meaning.proofs.Types.{width_bits}

@@ -19,7 +19,7 @@ use Rattle.meaning.specs.RecordCalls.{as_left_call, as_product_call, equal_call}
 use Rattle.meaning.specs.CodecCalls.{from_compact_call, from_compact_out, to_compact_call, to_compact_out}
 use Rattle.meaning.specs.WordCalls.{buffer_call, buffer_out}
 use Rattle.meaning.specs.CutCalls.{prune_call, prune_out}
-use Rattle.meaning.proofs.Sampling.{table_s, table_b, Said, node-facts, flag, count, place, places, out, Sample, sample, defined, paper, spare, one}
+use Rattle.meaning.proofs.Sampling.{table_s, table_b, node-facts, flag, count, place, places, out, Sample, sample, defined, paper, spare, one}
 
 -- A stream of so many bits that begins a byte or is empty.
 at : List ℕ → ℕ → Stream

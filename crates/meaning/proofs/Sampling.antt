@@ -14,9 +14,8 @@ use mathlib.Core.Path.{◌≡◌, refl}
 use Rattle.meaning.specs.Choice.{least, from}
 use Rattle.meaning.specs.Types.{same, width, size, padded, least_length}
 use Rattle.meaning.specs.Groups.{low, low_bytes, fact_in}
-use Rattle.meaning.specs.Tables.{ty_to, ty_at, class_of, Table, columns, facts, facts_in, NodeFacts}
+use Rattle.meaning.specs.Tables.{ty_to, ty_at, class_of, Table, facts_in, NodeFacts}
 use Rattle.meaning.specs.Files.{Entry, table_in, seven_bit_groups, entry_from, entries_from, columns_of}
-use Rattle.meaning.specs.Words.{buffer}
 use Rattle.meaning.specs.Ladder.{Answer, Record, record_of}
 use Rattle.meaning.specs.TypeCalls.{entries_in, group_of, groups_of}
 use Rattle.meaning.specs.RecordCalls.{Spot, Spots}

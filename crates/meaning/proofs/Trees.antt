@@ -10,19 +10,18 @@
 --   class_class                 a class is its own class
 -- Assumes nothing.
 use Prim.Native.Nat.{ℕ, zero, suc, ◌≤◌, ◌<◌}
-use mathlib.Core.Path.{◌≡◌, refl, ap, ap₂, sym, ◌∙◌, subst}
-use mathlib.Core.Bool.{Bool, true, false, ◌&&◌, false≢true, true≢false}
-use mathlib.Core.Logic.{◌⊎◌, inl, inr, ⊎_elim}
-use native.Mathlib.Nat.{not-suc-le-zero, le_antisymm, lt_of_le_of_lt, lt_of_lt_of_le, le_of_lt, eq-or-lt_of_le}
+use mathlib.Core.Path.{◌≡◌, refl, ap, ap₂, sym, ◌∙◌}
+use mathlib.Core.Bool.{Bool, true, false, false≢true, true≢false}
+use mathlib.Core.Logic.{⊎_elim}
+use native.Mathlib.Nat.{not-suc-le-zero, eq-or-lt_of_le}
 use native.Mathlib.Omega.{arith}
-use lib.Dec.{ltb, eqb}
+use lib.Dec.{ltb}
 use borrow.Author.Tests.{ltb-true}
-use Rattle.meaning.specs.Choice.{least}
-use Rattle.meaning.specs.Types.{Ty, unit, sum, prod, same}
+use Rattle.meaning.specs.Types.{Ty, sum, prod, same}
 use Rattle.meaning.specs.Tables.{Columns, kind, left, right, node, ty_to, ty_at, class_of, sides_right, entry_right}
 use Rattle.meaning.proofs.Tests.{and_left, and_right}
 use Rattle.meaning.proofs.Choices.{least_le, least_passes, least_before, least_unique}
-use Rattle.meaning.proofs.Types.{same_eq, eq_same, same_refl}
+use Rattle.meaning.proofs.Types.{same_eq, eq_same}
 
 -- The entries up to a node, itself included, are right.
 pub record RightTo (c : Columns) (n : ℕ) : Type 0 where

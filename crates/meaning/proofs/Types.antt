@@ -7,9 +7,9 @@
 --   width_top size_top              facts fit 64 bits
 --   size_pos                        a size is at least 1
 -- Assumes nothing.
-use Prim.Native.Nat.{ℕ, zero, suc, ◌+◌, ◌-◌, ◌^◌, ◌≤◌, ◌<◌, min, max}
-use mathlib.Core.Path.{◌≡◌, refl, ap, ap₂, sym, ◌∙◌, subst}
-use mathlib.Core.Bool.{Bool, true, false, ◌&&◌, false≢true}
+use Prim.Native.Nat.{ℕ, ◌+◌, ◌≤◌, ◌<◌, min, max}
+use mathlib.Core.Path.{◌≡◌, refl, ap₂, subst}
+use mathlib.Core.Bool.{true, ◌&&◌, false≢true}
 use native.Mathlib.Omega.{arith}
 use Rattle.meaning.specs.Types.{Ty, unit, sum, prod, same, bits, width, size, top, stop}
 use Rattle.meaning.proofs.Tests.{and_left, and_right, and_both}

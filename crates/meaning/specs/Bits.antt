@@ -7,7 +7,7 @@
 --   bit value                   a bit, and the bits of a list, as a number
 --   pack_to pack                the bytes that hold bits, with zero bits after the last
 --   written                     an output after a record was written at its bit 0
-use Rattle.std.specs.Prelude.{ℕ, zero, suc, ◌+◌, ◌*◌, ◌/◌, ◌%◌, ◌^◌, Bool, true, false, List, [], ◌∷◌, ◌++◌, length, take, drop, replicate, eqb}
+use Rattle.std.specs.Prelude.{ℕ, zero, suc, ◌+◌, ◌*◌, ◌/◌, ◌%◌, ◌^◌, Bool, true, false, List, [], ◌∷◌, ◌++◌, length, drop, replicate, eqb}
 
 -- The lowest bit of a number.
 unfoldable pub odd : ℕ → Bool

@@ -3,7 +3,7 @@
 --   any p xs        some member of xs passes p
 --   least p n       the smallest number below n that passes p; n where none does
 --   from n k        the k numbers n, n + 1, …
-use Rattle.std.specs.Prelude.{ℕ, zero, suc, Bool, true, false, cond, ◌||◌, List, [], ◌∷◌}
+use Rattle.std.specs.Prelude.{ℕ, zero, suc, Bool, false, cond, ◌||◌, List, [], ◌∷◌}
 
 -- Some member of the list passes.
 abbrev pub any : {A : Type 0} → (A → Bool) → List A → Bool

@@ -6,7 +6,6 @@
 --   compact_bits                what the compact writer writes
 --   from_compact_call from_padded_call to_compact_call to_padded_call, and the same with Out for the output
 use Rattle.std.specs.Prelude.{ℕ, ◌+◌, Bool, List, [], ◌∷◌, ◌++◌}
-use Rattle.meaning.specs.Types.{Ty}
 use Rattle.meaning.specs.Tables.{Table}
 use Rattle.meaning.specs.Bits.{written}
 use Rattle.meaning.specs.Records.{compact}

@@ -5,7 +5,7 @@
 --   decode_compact              compact reading: zero padding
 --   decode_padded               padded reading: padding as read
 --   is_early decoded_record consumed  whether it ended early, the record, and how many bits it took
-use Rattle.std.specs.Prelude.{ℕ, zero, suc, ◌+◌, Bool, true, false, cond, List, [], ◌∷◌, ◌++◌, length, take, drop, leb}
+use Rattle.std.specs.Prelude.{ℕ, ◌+◌, Bool, true, false, cond, List, [], ◌∷◌, ◌++◌, length, take, drop, leb}
 use Rattle.meaning.specs.Types.{Ty, unit, sum, prod, bits}
 use Rattle.meaning.specs.Records.{in_left, in_right}
 

@@ -3,7 +3,7 @@
 --   rebuilt joined              a payload that was cut, wrapped again; two parts that were cut, one after the other
 --   cut_to_sum cut_to_prod      the rules for sums and for products
 --   cut                         the four rules in their order
-use Rattle.std.specs.Prelude.{Bool, true, false, cond, List, [], ◌∷◌, ◌++◌}
+use Rattle.std.specs.Prelude.{Bool, cond, List, [], ◌++◌}
 use Rattle.std.proofs.Math.Option.{Option, none, some}
 use Rattle.meaning.specs.Types.{Ty, unit, sum, prod, same}
 use Rattle.meaning.specs.Records.{tag, left_of, right_of, first_of, second_of, in_left, in_right}

@@ -10,7 +10,7 @@
 --   sound present small named within stream_fits ranged shaped room_for
 --                               the rungs that many calls share: 1; 2; 3 and 4; 1 to 4; 5; 5; 6; 7; 9
 --   makes made                  a call that writes bits: its answer and its output
-use Rattle.std.specs.Prelude.{ℕ, zero, suc, ◌+◌, ◌*◌, ◌-◌, Bool, true, false, not, ◌&&◌, ◌||◌, List, [], ◌∷◌, ◌++◌, length, take, drop, eqb, ltb, leb}
+use Rattle.std.specs.Prelude.{ℕ, ◌+◌, ◌*◌, Bool, true, false, not, ◌&&◌, ◌||◌, List, [], ◌∷◌, ◌++◌, length, take, drop, ltb, leb}
 use Rattle.meaning.specs.Choice.{any}
 use Rattle.meaning.specs.Types.{Ty, bits, size}
 use Rattle.meaning.specs.Tables.{Table, ty_at, count_right, columns_reach, facts_reach, first_bad}

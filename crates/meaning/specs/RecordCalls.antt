@@ -9,10 +9,10 @@
 --   results                     1 to 7 of a constructor
 --   unit_rungs zero_rungs left_rungs …, zero_bits left_bits …  the rungs of each constructor, and the bits that it makes
 --   unit_call zero_call left_call right_call none_call some_call product_call, and the same with Out for the output
-use Prim.Native.Nat.{ℕ, zero, suc, ◌+◌, ◌-◌, Ordering, compare}
-use Rattle.std.specs.Prelude.{Bool, true, false, not, ◌&&◌, List, [], ◌∷◌, ◌++◌, map, length, ltb}
-use Rattle.meaning.specs.Types.{Ty, unit, sum, prod, same, bits, top, is_unit, is_sum, is_prod, left_side, right_side}
-use Rattle.meaning.specs.Tables.{Table, ty_at, class_of, left, right}
+use Prim.Native.Nat.{ℕ, ◌+◌, Ordering, compare}
+use Rattle.std.specs.Prelude.{Bool, not, ◌&&◌, List, [], ◌∷◌, ◌++◌, map, length, ltb}
+use Rattle.meaning.specs.Types.{same, bits, top, is_unit, is_sum, is_prod, left_side, right_side}
+use Rattle.meaning.specs.Tables.{Table, class_of, left, right}
 use Rattle.meaning.specs.Bits.{zeros}
 use Rattle.meaning.specs.Records.{tag, pad_left, pad_right, in_left, in_right, compact, same_bits, order_bits}
 use Rattle.meaning.specs.Ladder.{Answer, Rung, rung, ladder, Record, type_of, type_at, record_bits, named, within, shaped, makes, made}

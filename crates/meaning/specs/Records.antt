@@ -7,7 +7,7 @@
 --   compact                     the tags met on the walk, left before right, without padding
 --   plain                       the record with the same tags and zero padding
 --   same_bits order_bit order_bits  equality and order of bits
-use Prim.Native.Nat.{ℕ, zero, suc, ◌+◌, ◌-◌, max, Ordering}
+use Prim.Native.Nat.{ℕ, ◌+◌, ◌-◌, max, Ordering}
 use Rattle.std.specs.Prelude.{Bool, true, false, cond, ◌&&◌, List, [], ◌∷◌, ◌++◌, take, drop, get_or}
 use Rattle.std.specs.Bool.{beq}
 use Rattle.meaning.specs.Types.{Ty, unit, sum, prod, bits}

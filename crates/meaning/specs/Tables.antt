@@ -14,7 +14,7 @@
 --   reaches columns_reach facts_reach   columns and facts that reach it
 --   groups_reach                groups that reach it
 --   first_bad_entry first_bad   the first node at fault, or the count where there is none
-use Rattle.std.specs.Prelude.{ℕ, zero, suc, ◌*◌, Bool, true, false, not, cond, ◌&&◌, List, length, get_or, eqb, ltb, leb}
+use Rattle.std.specs.Prelude.{ℕ, zero, suc, ◌*◌, Bool, true, false, not, ◌&&◌, List, length, get_or, eqb, ltb, leb}
 use Rattle.meaning.specs.Choice.{least}
 use Rattle.meaning.specs.Types.{Ty, unit, sum, prod, same, width, size, padded, least_length}
 use Rattle.meaning.specs.Groups.{group_size, fact_in}

@@ -8,10 +8,10 @@
 --   Sides sides_at              the two sides of a node
 --   asks facts_of_call same_type_call is_unit_call is_empty_call type_as_sum_call type_as_product_call pad_left_call pad_right_call as_word_call
 --   word_width_call buffer_width_call is_buffer8_call is_ctx8_call  the type-only questions
-use Rattle.std.specs.Prelude.{ℕ, zero, suc, ◌*◌, ◌-◌, max, Bool, true, false, not, ◌&&◌, List, [], ◌∷◌, ◌++◌, map, length, drop, get_or, eqb, ltb, leb}
-use Rattle.meaning.specs.Types.{Ty, same, bits, width, size, padded, least_length, is_unit, is_sum, is_prod}
+use Rattle.std.specs.Prelude.{ℕ, zero, suc, ◌*◌, ◌-◌, max, Bool, true, false, not, ◌&&◌, List, [], ◌∷◌, ◌++◌, map, length, drop, get_or, eqb, ltb}
+use Rattle.meaning.specs.Types.{same, bits, width, size, padded, least_length, is_unit, is_sum, is_prod}
 use Rattle.meaning.specs.Groups.{group, group_size}
-use Rattle.meaning.specs.Tables.{Columns, Table, kind, left, right, ty_at, class_of, digit, NodeFacts, facts_at, count_right, columns_reach, groups_reach, first_bad_entry}
+use Rattle.meaning.specs.Tables.{Columns, Table, left, right, ty_at, class_of, digit, NodeFacts, facts_at, count_right, columns_reach, groups_reach, first_bad_entry}
 use Rattle.meaning.specs.Files.{Reading, faulty, found, Entry, table_in, columns_of}
 use Rattle.meaning.specs.Words.{word_widths, as_word, buffer, ctx8}
 use Rattle.meaning.specs.Ladder.{Answer, Rung, rung, ladder, kept, type_at, sound, present, ranged, shaped}

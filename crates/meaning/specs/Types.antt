@@ -8,7 +8,7 @@
 --   top stop                    the end of the 64-bit numbers, and an addition that stops there
 --   width size padded           its facts
 --   fewest least_length         its true least compact length, and as a fact: document 02, K1
-use Rattle.std.specs.Prelude.{ℕ, zero, suc, ◌+◌, ◌-◌, ◌^◌, min, max, Bool, true, false, not, ◌&&◌, ◌||◌, eqb}
+use Rattle.std.specs.Prelude.{ℕ, ◌+◌, ◌-◌, ◌^◌, min, max, Bool, true, false, not, ◌&&◌, ◌||◌, eqb}
 
 -- A type is unit, a sum of two types or a product of two types.
 pub data Ty : Type 0 where

@@ -3,7 +3,7 @@
 --   from_range                  1 to 7 of a call that makes a record from numbers or bytes
 --   number_rungs bytes_rungs array_rungs join_rungs word_read_rungs buffer_rungs ctx8_rungs  the rungs of each
 --   number_call bytes_call array_call join_call word_read_call buffer_call ctx8_call, and the same with Out for the output
-use Rattle.std.specs.Prelude.{ℕ, zero, suc, ◌+◌, ◌-◌, ◌^◌, Bool, ◌&&◌, List, [], ◌∷◌, ◌++◌, length, eqb, ltb, leb}
+use Rattle.std.specs.Prelude.{ℕ, ◌+◌, ◌-◌, ◌^◌, Bool, ◌&&◌, List, [], ◌∷◌, ◌++◌, length, eqb, ltb, leb}
 use Rattle.meaning.specs.Types.{same}
 use Rattle.meaning.specs.Tables.{Table}
 use Rattle.meaning.specs.Words.{is_word, exponent, joins, buffer, buffer_bits, ctx8, HashState, ctx8_bits}

@@ -1,14 +1,8 @@
--- `exports_answers::store` meets its contract. The invariant of its loop: the first i values stand at the front of what was lent. Assumes nothing.
-use borrow.Author.Rules.{rules}
-use borrow.Author.Tests.{lt-ltb, le-ltb}
-use native.Mathlib.Omega.{arith}
-use Prim.Native.Nat.{ℕ, ◌-◌, ◌≤◌, ◌<◌}
-use mathlib.Core.Path.{◌≡◌, refl, ap, sym, ◌∙◌}
-use mathlib.Core.Bool.{Bool, cond}
-use mathlib.Core.List.{List, ◌++◌}
-use lib.ListN.{length, get_or, drop, length-set}
-use lib.Dec.{ltb}
-use Rattle.exports_answers.proofs.Fronts.{front, front_more, front_all}
+-- The loop: the first i values stand at the front of what was lent.
+use Prim.Native.Nat.{◌-◌, ◌≤◌}
+use mathlib.Core.Path.{◌≡◌}
+use lib.ListN.{length}
+use Rattle.exports_answers.proofs.Fronts.{front}
 use Rattle.exports_answers.proofs.store.Given as goal
 
 abbrev pub invariant-loop-i : goal.invariant-loop-i
