@@ -34,7 +34,7 @@ pub fn named(
 }
 
 // 1 to 5, of a call that names a result and is handed no record.
-pub fn res(
+pub fn result(
     kinds: &[u8],
     lefts: &[u16],
     rights: &[u16],

@@ -64,7 +64,7 @@ passed : (c : Past-After-enum_told) → ladder (first (start c)) (tt {0}) ≡ ac
 passed c = sym c.named-judged.ensures ∙ ap done_of c.in_default.is
 
 in-range : (c : Else1) → (start c.before).args.fits ≡ true
-in-range c = not-false (start c.before).args.fits c.if-not-fits.false
+in-range c = c.if-not-fits.false
 
 is_right : (c : Else2) → right (start c.before.before.before) ≡ true
 is_right c = sym c.is_word.ensures ∙ c.if-not-is_word.false

@@ -50,8 +50,8 @@ returns c =
     let e = asked c.before.before.before.before.before in
     let given = bits_of a.bytes.now in record { result_value = c.bytes_word.ensures.result_value
           ∙ ap
-          (λ (k : ℕ). makes (from_range (of s) a.result (eqb (length a.bytes.now) k) (is_word a.n (type_at (of s) a.result))) given a.out.now)
+          (λ (k : ℕ). makes (from_range (of s) a.res (eqb (length a.bytes.now) k) (is_word a.n (type_at (of s) a.res))) given a.out.now)
           e; out_after = c.bytes_word.ensures.out_after
           ∙ ap
-          (λ (k : ℕ). made (from_range (of s) a.result (eqb (length a.bytes.now) k) (is_word a.n (type_at (of s) a.result))) given a.out.now)
+          (λ (k : ℕ). made (from_range (of s) a.res (eqb (length a.bytes.now) k) (is_word a.n (type_at (of s) a.res))) given a.out.now)
           e }

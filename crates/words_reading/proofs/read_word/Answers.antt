@@ -178,7 +178,7 @@ pub overflow_add-result : goal.overflow_add-result
 overflow_add-result c =
     let s = start c.before.before.before.before.before.before.before.before.before.before.before.before in
     let i = (inside s).begins in
-    let f = s.fits.until in
+    let f = s.ranges.until.fits in
     record { fits = omega arith }
 
 pub returns : goal.returns

@@ -4,7 +4,7 @@ use mathlib.Core.Path.{sym, ◌∙◌}
 use mathlib.Core.List.{[], ◌∷◌}
 use Rattle.meaning.specs.Tables.{table}
 use Rattle.checked_rungs.proofs.Asked.{no_record}
-use Rattle.checked_rungs.proofs.res.Goals as goal
+use Rattle.checked_rungs.proofs.result.Goals as goal
 
 pub returns : goal.returns
 returns c =
