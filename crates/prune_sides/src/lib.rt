@@ -1,5 +1,7 @@
 // Where a cut goes on below two sums: the tag of the record takes a side of its own type and that side of the target.
 // What holds of one step of a cut is proved here, for the walk that judges and for the one that writes.
+#![tactic(auto)]
+
 ghost use Rattle.std.specs.Prelude.{◌≤◌};
 ghost use Rattle.nodes.specs.Reading.{side_of};
 ghost use Rattle.prune_sides.specs.Sides.{UnderTag, Sums, TakenSide};
