@@ -1,6 +1,8 @@
 // How many compact bits a record has: the walk over it that counts them, and whether they fit. The walk recurses on node numbers, which fall
 // at every call: a node without padding is one run of bits; of the others a sum calls it for the side that the tag takes, a product for its
 // left part and then for its right part. Inner: the table and the bounds are those that a public call has checked.
+#![tactic(auto)]
+
 ghost use Rattle.std.specs.Prelude.{◌≡◌, leb, length, drop};
 ghost use Rattle.meaning.specs.Types.{bits};
 ghost use Rattle.meaning.specs.Tables.{table, columns, ty_at};
