@@ -1,6 +1,8 @@
 // Compact reading: the walk that writes a record from its compact bits. It recurses on node numbers, which fall at every call: a node without
 // padding is one run of bits; of the others a sum calls it for the side that the tag takes, a product for its left part and then for its right
 // part. Inner: the table and the bounds are those that a public call has checked, and what is read is known to be there whole.
+#![tactic(auto)]
+
 ghost use Rattle.std.specs.Prelude.{◌≡◌, false, ◌+◌, drop};
 ghost use Rattle.meaning.specs.Types.{bits};
 ghost use Rattle.meaning.specs.Tables.{table, columns, ty_at};

@@ -1,6 +1,8 @@
 // Where the compact bits of a record end: the judge, a walk that only reads, and whether a stream ends before they do. The walk recurses on
 // node numbers, which fall at every call: a node without padding is one run of bits; of the others a sum calls it for the side that the tag takes,
 // a product for its left part and then for its right part. Inner: the table and the bounds are those that a public call has checked.
+#![tactic(auto)]
+
 ghost use Rattle.std.specs.Prelude.{◌≡◌, ◌*◌, ◌≤◌, length, take, drop};
 ghost use Rattle.meaning.specs.Tables.{table, columns, ty_at};
 ghost use Rattle.meaning.specs.Bits.{bits_of};
