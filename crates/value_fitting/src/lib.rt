@@ -1,5 +1,7 @@
 // Whether a result is made of the types given: what refusal 7 of the constructors asks.
 // Inner: the table is sound, and the nodes are in it and within the limits.
+#![tactic(auto)]
+
 ghost use Rattle.std.specs.Prelude.{◌≡◌};
 ghost use Rattle.meaning.specs.Tables.{table};
 ghost use Rattle.checked.specs.Passed.{Named};

@@ -1,5 +1,7 @@
 // What the constructors do with a result and payloads that they have checked: 7 where the result is not made of the types given, 9 where the
 // output is too short, and the record. Inner: the table is sound, the nodes are in it, and the payloads lie within their bytes.
+#![tactic(auto)]
+
 ghost use Rattle.std.specs.Prelude.{◌≡◌, []};
 ghost use Rattle.meaning.specs.Tables.{table};
 ghost use Rattle.meaning.specs.Ladder.{record_of, shaped, makes, made};

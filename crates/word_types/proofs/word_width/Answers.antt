@@ -1,0 +1,12 @@
+-- `word_types::word_width` meets its contract. Assumes nothing.
+use borrow.Author.Rules.{rules}
+use Rattle.word_types.proofs.Shaped.{no_word_width, word_width_told}
+use Rattle.word_types.proofs.word_width.Goals as goal
+
+pub returns-then-n-ge32 : goal.returns-then-n-ge32
+returns-then-n-ge32 c =
+    no_word_width c.args.n c.if-n-ge32.true
+
+pub returns : goal.returns
+returns c =
+    word_width_told c.args.n c.if-n-ge32.false c.word_width.result c.word_width.ensures
