@@ -1,5 +1,7 @@
 // Words, byte arrays, joins, buffers and the hash state, from numbers and bytes to records. Every call judges all that it is handed, in the
 // order of the ladder's numbers, and writes only what it has accepted.
+#![tactic(auto)]
+
 mod buffers;
 mod joins;
 mod words;
