@@ -2,7 +2,7 @@
 // `specs/` says by cases which of document 01's numbers and values each stands for.
 
 // A refusal: its number on the ladder, and its place.
-#[derive(Drop)]
+#[derive(Clone, Copy)]
 pub struct Refusal {
     pub number: u8,
     pub place: usize,
@@ -57,41 +57,41 @@ pub const NO_ROOM: Refusal = Refusal {
 };
 
 // Accepted, with nothing to say.
-#[derive(Drop)]
+#[derive(Clone, Copy)]
 pub enum Done {
     Accepted,
     Refused(Refusal),
 }
 
 // A number: a count of nodes, a width, a position, an n.
-#[derive(Drop)]
+#[derive(Clone, Copy)]
 pub enum Count {
     Is(usize),
     Refused(Refusal),
 }
 
 // Yes or no.
-#[derive(Drop)]
+#[derive(Clone, Copy)]
 pub enum Flag {
     Is(bool),
     Refused(Refusal),
 }
 
 // The two sides of a node.
-#[derive(Drop)]
+#[derive(Clone, Copy)]
 pub struct Sides {
     pub left: usize,
     pub right: usize,
 }
 
-#[derive(Drop)]
+#[derive(Clone, Copy)]
 pub enum SidesAnswer {
     Are(Sides),
     Refused(Refusal),
 }
 
 // Everything that a table says of a node.
-#[derive(Drop)]
+#[derive(Clone, Copy)]
 pub struct Facts {
     pub width: u64,
     pub size: u64,
@@ -103,40 +103,40 @@ pub struct Facts {
     pub least: u64,
 }
 
-#[derive(Drop)]
+#[derive(Clone, Copy)]
 pub enum FactsAnswer {
     Are(Facts),
     Refused(Refusal),
 }
 
 // A place in the caller's bytes: a bit offset and a node.
-#[derive(Drop)]
+#[derive(Clone, Copy)]
 pub struct Spot {
     pub offset: usize,
     pub node: usize,
 }
 
-#[derive(Drop)]
+#[derive(Clone, Copy)]
 pub enum SpotAnswer {
     At(Spot),
     Refused(Refusal),
 }
 
-#[derive(Drop)]
+#[derive(Clone, Copy)]
 pub enum SpotsAnswer {
     At(Spot, Spot),
     Refused(Refusal),
 }
 
 // An order.
-#[derive(Drop)]
+#[derive(Clone, Copy)]
 pub enum Order {
     Less,
     Equal,
     Greater,
 }
 
-#[derive(Drop)]
+#[derive(Clone, Copy)]
 pub enum OrderAnswer {
     Is(Order),
     Refused(Refusal),

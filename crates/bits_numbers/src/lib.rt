@@ -1,5 +1,7 @@
 // Numbers written as runs of bits. Inner: a public call has checked that the run lies within its bytes. It is written by the destination's bytes, as
 // the runs of `bits_runs` are.
+#![tactic(auto)]
+
 ghost use Rattle.std.specs.Prelude.{◌≡◌, ◌≤◌};
 ghost use Rattle.std.proofs.Math.Seq.{paste};
 ghost use Rattle.meaning.specs.Bits.{bits_of, to_bits};

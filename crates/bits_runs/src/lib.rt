@@ -1,6 +1,8 @@
 // Runs of bits copied and cleared. Inner: a public call has checked that the runs lie within their bytes.
 // What writes a run goes by the destination's bytes: the bits up to the next border of a byte, whole bytes, and what is left, which is less than
 // a byte.
+#![tactic(auto)]
+
 ghost use Rattle.std.specs.Prelude.{◌≡◌, ◌-◌, ◌*◌, ◌≤◌, length, drop};
 ghost use Rattle.std.proofs.Math.Seq.{paste};
 ghost use Rattle.meaning.specs.Bits.{bits_of, zeros, room};

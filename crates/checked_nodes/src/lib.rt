@@ -1,4 +1,6 @@
 // What the calls ask of nodes that were checked: how wide a node's records are, and whether two nodes have the same type.
+#![tactic(auto)]
+
 ghost use Rattle.std.specs.Prelude.{◌≡◌, ◌<◌};
 ghost use Rattle.meaning.specs.Types.{same, bits};
 ghost use Rattle.meaning.specs.Tables.{table};

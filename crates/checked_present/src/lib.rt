@@ -1,5 +1,7 @@
 // Rungs 1 and 2 of the ladder: the table, and the nodes that a question about types names. A question about nodes begins with one of these
 // calls.
+#![tactic(auto)]
+
 ghost use Rattle.std.specs.Prelude.{◌≡◌, [], ◌∷◌};
 ghost use Rattle.meaning.specs.Tables.{table};
 ghost use Rattle.meaning.specs.TypeCalls.{asks};

@@ -1,6 +1,8 @@
 // The first rungs of the ladder, 1 to 5, as one call each: the table, the named nodes, the bounds of records and streams. None of these
 // functions expects a checked input, so a call on records begins with one of them and goes on with what it has learnt. Each record and each node
 // is asked once, and the least number refuses.
+#![tactic(auto)]
+
 ghost use Rattle.std.specs.Prelude.{◌≡◌, [], ◌∷◌};
 ghost use Rattle.meaning.specs.Tables.{table};
 ghost use Rattle.meaning.specs.Ladder.{ladder, record_of, stream_of};

@@ -1,4 +1,6 @@
 // Rung 1 of the ladder: the table, whatever is handed in. `table::check_table` is this call, and every other call that is handed facts begins with it.
+#![tactic(auto)]
+
 ghost use Rattle.std.specs.Prelude.{◌≡◌};
 ghost use Rattle.meaning.specs.Tables.{table};
 ghost use Rattle.meaning.specs.TypeCalls.{check_table_call};

@@ -1,5 +1,7 @@
 // Whole records, written at bit 0 of an output with zero bits after them in the last byte; later bytes are left alone.
 // Inner: a public call has checked that what is written lies within its bytes and that the output has room.
+#![tactic(auto)]
+
 ghost use Rattle.std.specs.Prelude.{◌≡◌, ◌∷◌, ◌++◌, ◌-◌, ◌<◌, ◌≤◌, take, drop};
 ghost use Rattle.meaning.specs.Bits.{bits_of, zeros, written};
 ghost use Rattle.bits.specs.Runs.{Run};

@@ -9,7 +9,7 @@ ghost use Rattle.checked.specs.Passed.{Named};
 ghost use Rattle.codec_judging.specs.Ends.{end_of};
 
 // Where the compact bits of a record end.
-#[derive(Drop)]
+#[derive(Clone, Copy)]
 enum End {
     At(usize),
     Early,

@@ -1,5 +1,7 @@
 // The facts of a lent table: the first node with anything wrong, and the groups of facts filled in.
 // Each node is judged by the facts of earlier ones, so one pass does.
+#![tactic(auto)]
+
 ghost use Rattle.std.specs.Prelude.{◌≡◌, ◌+◌};
 ghost use Rattle.meaning.specs.Tables.{columns, table, first_bad};
 ghost use Rattle.meaning.specs.TypeCalls.{groups_written};

@@ -1,4 +1,6 @@
 // The facts of a node by those of its two sides; the facts of a side, and whether a node's facts are those found, by the groups.
+#![tactic(auto)]
+
 ghost use Rattle.std.specs.Prelude.{◌≡◌, true, ◌+◌, ◌*◌, ◌≤◌, max, min, length};
 ghost use Rattle.meaning.specs.Types as types;
 ghost use Rattle.meaning.specs.Groups.{group_size};
@@ -7,7 +9,7 @@ ghost use Rattle.facts_sides.specs.Sides.{width_by, size_by, padded_by, least_by
 ghost use Rattle.facts_sides.specs.Derived.{SideDerived, Derived};
 
 // What is found of a node: its width, size, padded byte, class and least length, and the slot of its key.
-#[derive(Drop)]
+#[derive(Clone, Copy)]
 pub struct Found {
     pub width: u64,
     pub size: u64,
@@ -18,7 +20,7 @@ pub struct Found {
 }
 
 // The facts of a side of a node.
-#[derive(Drop)]
+#[derive(Clone, Copy)]
 pub struct Side {
     pub width: u64,
     pub size: u64,

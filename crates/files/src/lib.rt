@@ -11,7 +11,7 @@ ghost use Rattle.files.specs.Readings.{node_of, judged_of, file_verdict, Readabl
 use files_numbers::{Number, count_of, number_below};
 
 // A node as the file has it.
-#[derive(Drop)]
+#[derive(Clone, Copy)]
 pub struct Entry {
     pub kind: u8,
     pub left: u16,
@@ -19,14 +19,14 @@ pub struct Entry {
 }
 
 // A node of the file with the offset after it, or the place of the fault in it.
-#[derive(Drop)]
+#[derive(Clone, Copy)]
 pub enum Node {
     Is(Entry, usize),
     Fault(usize),
 }
 
 // A sound file with the count of its nodes, or the place of the first fault.
-#[derive(Drop)]
+#[derive(Clone, Copy)]
 pub enum Judged {
     Sound(usize),
     Fault(usize),

@@ -7,7 +7,7 @@ ghost use Rattle.meaning.specs.Files.{number_at, number};
 ghost use Rattle.files_numbers.specs.Readings.{read_at};
 
 // A number of the file, with the offset after it.
-#[derive(Drop)]
+#[derive(Clone, Copy)]
 pub enum Number {
     Is(usize, usize),
     Faulty,

@@ -22,14 +22,14 @@ pub const GROUP_BYTES: usize = 27;
 pub const MOST_GROUPS_BYTES: usize = 1024 * GROUP_BYTES;
 
 // A number, or a single byte.
-#[derive(Drop)]
+#[derive(Clone, Copy)]
 pub struct Number {
     pub value: u64,
     pub next: usize,
 }
 
 // A run of bytes, from one position of the list to another. It is empty where the list does not hold it.
-#[derive(Drop)]
+#[derive(Clone, Copy)]
 pub struct Run {
     pub from: usize,
     pub to: usize,

@@ -8,7 +8,7 @@ ghost use Rattle.meaning.specs.Checked.{Sound};
 ghost use Rattle.nodes.specs.Reading.{Reads, side_of};
 
 // What a walker needs of a node. The sides of a unit are node 0.
-#[derive(Drop)]
+#[derive(Clone, Copy)]
 pub struct Node {
     pub kind: u8,
     pub left: usize,
@@ -47,7 +47,7 @@ pub fn node_at(
 }
 
 // A side of a node: its number and its width.
-#[derive(Drop)]
+#[derive(Clone, Copy)]
 pub struct Side {
     pub node: usize,
     pub width: u64,

@@ -1,5 +1,7 @@
 // Where a cut goes on below two sums: the tag of the record takes a side of its own type and that side of the target.
 // What holds of one step of a cut is proved here, for the walk that judges and for the one that writes.
+#![tactic(auto)]
+
 ghost use Rattle.std.specs.Prelude.{◌≤◌};
 ghost use Rattle.nodes.specs.Reading.{side_of};
 ghost use Rattle.prune_sides.specs.Sides.{UnderTag, Sums, TakenSide};
@@ -7,7 +9,7 @@ ghost use Rattle.prune_sides.specs.Sides.{UnderTag, Sums, TakenSide};
 use nodes::Node;
 
 // The payload under a tag: its node, and how many bits of tag and padding stand before it.
-#[derive(Drop)]
+#[derive(Clone, Copy)]
 pub struct Payload {
     pub node: usize,
     pub before: usize,
@@ -26,7 +28,7 @@ fn under_tag(n: Node, tag: bool) -> Payload
 }
 
 // The tag of a record, and the payloads under it in the record and in the target.
-#[derive(Drop)]
+#[derive(Clone, Copy)]
 pub struct Taken {
     pub tag: bool,
     pub given: Payload,

@@ -1,5 +1,7 @@
 // Word, buffer and hash state types in a checked table, and their widths, for the crates above. Inner: the table must be sound, which every
 // public call checks first.
+#![tactic(auto)]
+
 ghost use Rattle.std.specs.Prelude.{◌≡◌, ◌<◌, get_or};
 ghost use Rattle.meaning.specs.Types.{bits, same};
 ghost use Rattle.meaning.specs.Tables.{table, ty_at, columns};

@@ -1,6 +1,8 @@
 // A table as a whole: whether it is sound, its facts from its entries, and a table from its file. What is judged is judged before anything is
 // written: a refusal answers a number and a place, and leaves every column and group as it stood. Assumes nothing: each call judges all that it
 // is handed.
+#![tactic(auto)]
+
 ghost use Rattle.std.specs.Prelude.{◌≡◌};
 ghost use Rattle.meaning.specs.Tables.{table, columns};
 ghost use Rattle.meaning.specs.TypeCalls.{check_table_call, fill_facts_call, fill_facts_out, read_table_call, read_table_columns_out, read_table_groups_out};

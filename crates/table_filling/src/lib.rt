@@ -1,4 +1,6 @@
 // Whether facts can be filled in, judged before anything is written.
+#![tactic(auto)]
+
 ghost use Rattle.std.specs.Prelude.{◌≡◌};
 ghost use Rattle.meaning.specs.Tables.{columns};
 ghost use Rattle.meaning.specs.TypeCalls.{fill_facts_call};

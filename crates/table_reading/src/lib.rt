@@ -1,4 +1,6 @@
 // A table from its file: first the judgement, which writes nothing, and then what is written once it has passed.
+#![tactic(auto)]
+
 ghost use Rattle.std.specs.Prelude.{◌≡◌};
 ghost use Rattle.meaning.specs.Tables.{columns};
 ghost use Rattle.meaning.specs.Files.{table_in};

@@ -1,4 +1,6 @@
 // Whether lent columns and a lent buffer of groups have room for so many nodes.
+#![tactic(auto)]
+
 ghost use Rattle.std.specs.Prelude.{◌≡◌, ◌≤◌};
 ghost use Rattle.meaning.specs.Tables.{columns, columns_reach, groups_reach};
 

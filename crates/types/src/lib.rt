@@ -1,4 +1,6 @@
 // The questions about types. Each judges the table and the named nodes first, and then reads what a sound table has ready. Assumes nothing.
+#![tactic(auto)]
+
 ghost use Rattle.std.specs.Prelude.{◌≡◌};
 ghost use Rattle.meaning.specs.Tables.{table};
 ghost use Rattle.meaning.specs.TypeCalls as calls;

@@ -1,4 +1,6 @@
 // What the questions about types read once the table and the nodes have been judged.
+#![tactic(auto)]
+
 ghost use Rattle.std.specs.Prelude.{◌≡◌, ◌-◌, max, eqb};
 ghost use Rattle.meaning.specs.Tables.{table, columns, facts_at};
 ghost use Rattle.meaning.specs.Ladder.{ladder, shaped};

@@ -1,5 +1,7 @@
 // Equality and order of records that a public call has checked.
 // Inner: the table is sound, the nodes are in it, and the records lie within their bytes.
+#![tactic(auto)]
+
 ghost use Rattle.std.specs.Prelude.{◌≡◌};
 ghost use Rattle.meaning.specs.Tables.{table};
 ghost use Rattle.meaning.specs.Ladder.{record_of};

@@ -1,5 +1,7 @@
 // Views of records that a public call has checked: the payload of a sum, the parts of a product.
 // Inner: the table is sound, the node is in it, and the record lies within its bytes.
+#![tactic(auto)]
+
 ghost use Rattle.std.specs.Prelude.{◌≡◌};
 ghost use Rattle.meaning.specs.Tables.{table};
 ghost use Rattle.meaning.specs.Ladder.{record_of};

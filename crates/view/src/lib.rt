@@ -11,7 +11,7 @@ ghost use Rattle.answers.specs.Verdicts.{spot_of, spots_of, flag_of};
 use answers::{Flag, Spot, SpotAnswer, SpotsAnswer};
 
 // A record: the caller's bytes, by reference, a bit offset and a node.
-#[derive(Drop)]
+#[derive(Clone, Copy)]
 pub struct View<'a> {
     pub bytes: &'a [u8],
     pub offset: usize,
@@ -19,14 +19,14 @@ pub struct View<'a> {
 }
 
 // What a view of one side answers: the view's own bytes, and beside them where the sub-view stands in them, or a refusal.
-#[derive(Drop)]
+#[derive(Clone, Copy)]
 pub struct Sub<'a> {
     pub bytes: &'a [u8],
     pub at: SpotAnswer,
 }
 
 // The same for two sides.
-#[derive(Drop)]
+#[derive(Clone, Copy)]
 pub struct Subs<'a> {
     pub bytes: &'a [u8],
     pub at: SpotsAnswer,

@@ -1,5 +1,7 @@
 // The questions about word types, buffer types and the hash state's type. Each that names a node judges the table and the node first. Assumes
 // nothing.
+#![tactic(auto)]
+
 ghost use Rattle.std.specs.Prelude.{◌≡◌};
 ghost use Rattle.meaning.specs.Tables.{table};
 ghost use Rattle.meaning.specs.TypeCalls as calls;

@@ -15,6 +15,7 @@ use Rattle.facts_classes.proofs.find.Lts as lts
 use Rattle.facts_classes.proofs.find.Tie as tie
 use Rattle.facts_classes.proofs.find.Reads as reads
 use Rattle.facts_classes.proofs.find.Goals as goal
+use Rattle.facts_classes.proofs.find.Goals.{then-kinds-m+then-class_at-a+else-class_at-b, then-kinds-m+else-class_at-a, else-kinds-m}
 
 -- The places of the code that the lemmas below speak of.
 abbrev At-loop : Type 0
@@ -116,10 +117,12 @@ loop-m-preserved c =
     let m = c.loop-m.m in
     along_next (cols l) x.start x.kind x.a x.b m (get_or x.links.now m 0) c.loop-m.invariant c.loop-m-test.true
     (λ (v : Keyed (cols l) x.kind x.a x.b m).
-    ⊎_elim (λ w. w.6.left (w.5.ensures ∙ right_class l ∙ v.same_right))
-    (⊎_elim (λ w. w.3.left (w.2.ensures ∙ left_class l ∙ v.same_left))
-    (λ w. w.left v.same_kind))
-    c.if-kinds-m.branch)
+    elim c.if-kinds-m.branch [
+      | then-kinds-m+then-class_at-a+else-class_at-b w ↦
+          w.if-class_at-b.false (w.class_at-then-class_at-a.ensures ∙ right_class l ∙ v.same_right)
+      | then-kinds-m+else-class_at-a w ↦ w.if-class_at-a.false (w.class_at.ensures ∙ left_class l ∙ v.same_left)
+      | else-kinds-m w ↦ w.if-kinds-m.false v.same_kind
+    ])
     (next_last c.before.before.before)
 
 pub returns : goal.returns

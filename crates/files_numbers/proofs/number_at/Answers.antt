@@ -2,7 +2,6 @@
 use native.Mathlib.Omega.{arith}
 use Prim.Native.Nat.{◌+◌}
 use Rattle.files_numbers.proofs.Numbers.{number_at_gone, number_at_one, number_at_cut, number_at_short, number_at_third, number_at_two}
-use borrow.Author.Rules.{rules}
 use Rattle.files_numbers.proofs.number_at.Goals as goal
 
 pub returns-then-file-at : goal.returns-then-file-at

@@ -1,5 +1,4 @@
 -- `lists::highest_first` meets its contract: its bytes lie in the list, and it ends. Assumes nothing.
-use borrow.Author.Rules.{rules}
 use Prim.Native.Nat.{◌≤◌, ◌-◌}
 use Rattle.lists.proofs.highest_first.Given as goal
 

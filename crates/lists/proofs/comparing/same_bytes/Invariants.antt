@@ -1,12 +1,7 @@
 -- `lists::comparing::same_bytes` meets its contract: the invariant of its loop is that the first i bytes are the same. Assumes nothing.
-use borrow.Author.Rules.{rules}
-use Prim.Native.Nat.{ℕ, suc, ◌+◌, ◌-◌, ◌≤◌, ◌<◌}
-use mathlib.Core.Path.{◌≡◌, refl, sym, ap, ap₂, ◌∙◌}
-use native.Mathlib.Omega.{arith}
-use mathlib.Core.Bool.{false≢true}
-use mathlib.Core.List.{List, [], ◌∷◌, ◌++◌}
-use lib.ListN.{length, take, get_or}
-use lib.Seq.{take-suc, take_all}
+use Prim.Native.Nat.{◌-◌, ◌≤◌}
+use mathlib.Core.Path.{◌≡◌}
+use lib.ListN.{length, take}
 use Rattle.lists.proofs.comparing.same_bytes.Given as goal
 
 abbrev pub invariant-loop-i : goal.invariant-loop-i

@@ -1,5 +1,4 @@
 -- `lists::requests::request_at` meets its contract: each run of a request lies in the list, since `run_at` says so of every run. Assumes nothing.
-use borrow.Author.Rules.{rules}
 use Rattle.lists.proofs.requests.request_at.Goals as goal
 
 pub returns : goal.returns

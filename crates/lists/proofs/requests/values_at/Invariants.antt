@@ -1,5 +1,4 @@
 -- `lists::requests::values_at` meets its contract: eight values at most, no position more than one past the end. Assumes nothing.
-use borrow.Author.Rules.{rules}
 use Prim.Native.Nat.{◌≤◌, ◌-◌, ◌+◌}
 use lib.ListN.{length}
 use Rattle.lists.proofs.requests.values_at.Given as goal

@@ -1,0 +1,12 @@
+-- `checked_rungs::result` meets its contract: with no record there is no fifth rung to ask. Assumes nothing.
+use borrow.Author.Rules.{rules}
+use mathlib.Core.Path.{sym, ◌∙◌}
+use mathlib.Core.List.{[], ◌∷◌}
+use Rattle.meaning.specs.Tables.{table}
+use Rattle.checked_rungs.proofs.Asked.{no_record}
+use Rattle.checked_rungs.proofs.res.Goals as goal
+
+pub returns : goal.returns
+returns c =
+    let a = c.args in
+    c.named.ensures ∙ sym (no_record (table a.kinds.now a.lefts.now a.rights.now a.groups.now a.count) (a.res ∷ []))
