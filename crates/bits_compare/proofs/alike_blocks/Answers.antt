@@ -11,6 +11,10 @@ pub loop-alike-init : goal.loop-alike-init
 loop-alike-init c =
     c.requires.alike
 
+pub returns-then-unlike_bytes-gt0 : goal.returns-then-unlike_bytes-gt0
+returns-then-unlike_bytes-gt0 c =
+    c.loop-alike.invariant
+
 pub loop-alike-preserved : goal.loop-alike-preserved
 loop-alike-preserved c =
     let a = c.args in
