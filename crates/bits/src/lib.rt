@@ -38,6 +38,7 @@ fn with_bit(x: u8, k: usize, b: bool) -> u8
 }
 
 // The n bits from bit `at` on, at most 8, as a number.
+#[tactic(auto, using(crate::proofs::Parts::byte_shifted, crate::proofs::Parts::top_below))]
 pub fn bits_at(s: &[u8], at: usize, n: usize) -> u8
     requires n_bound { n ≤ 8 }
     requires run { Run s.now at n }

@@ -12,7 +12,7 @@ use mathlib.Core.Logic.{⊎_elim}
 use mathlib.Core.Bool.{Bool, true, false, true≢false, false≢true}
 use lib.Dec.{ltb}
 use borrow.Author.Tests.{lt-ltb, le-ltb, ltb-true, ltb-false}
-use Rattle.meaning.specs.Ladder.{Answer, accepted}
+use Rattle.meaning.specs.Ladder.{accepted}
 use Rattle.meaning.proofs.Choices.{either}
 use Rattle.checked_limits.specs.Limits.{first_rung, limit_answer}
 

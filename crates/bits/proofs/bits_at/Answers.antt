@@ -1,14 +1,13 @@
 -- `bits::bits_at` meets its contract: the byte that starts at the run, shifted down to the run's length. Assumes nothing.
 use mathlib.Core.Path.{◌≡◌, refl, sym, ap, ◌∙◌, subst}
-use Prim.Native.Nat.{ℕ, ◌*◌, ◌/◌, ◌%◌, ◌^◌}
-use native.Mathlib.Nat.{mod-lt}
+use Prim.Native.Nat.{ℕ}
 use native.Mathlib.Omega.{arith}
-use lib.ListN.{get_or, take, drop}
+use lib.ListN.{take, drop}
 use lib.Pow.{pow_pos}
 use lib.Seq.{take-take}
 use borrow.Author.Rules.{rules}
 use Rattle.meaning.specs.Bits.{bits_of, to_bits}
-use Rattle.bits.proofs.Parts.{to_bits_top, top_below, byte_shifted, two_bytes}
+use Rattle.bits.proofs.Parts.{to_bits_top, top_below, two_bytes}
 use Rattle.bits.proofs.bits_at.Goals as goal
 
 pub returns-then-n-eq0 : goal.returns-then-n-eq0
@@ -16,10 +15,6 @@ unfolding to_bits
 returns-then-n-eq0 c =
     let a = c.args in
     let none : 0 ≡ a.n = omega arith in record { result_value = subst (λ (k : ℕ). to_bits k 0 ≡ take k (drop a.at (bits_of a.s.now))) none refl; upper_bound = pow_pos a.n }
-
-pub returns-then-skip-n-le8 : goal.returns-then-skip-n-le8
-returns-then-skip-n-le8 c =
-    let a = c.args in record { result_value = byte_shifted a.s.now a.at a.n c.if-skip-n-le8.true (search rules); upper_bound = top_below a.n (get_or a.s.now (a.at / 8) 0 * 2 ^ (a.at % 8) % 256) c.requires.n_bound (mod-lt _ (search rules)) }
 
 pub returns : goal.returns
 returns c =

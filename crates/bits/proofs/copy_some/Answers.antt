@@ -4,7 +4,6 @@ use mathlib.Core.Bool.{Bool}
 use mathlib.Core.List.{List}
 use lib.ListN.{drop}
 use lib.Seq.{paste}
-use borrow.Author.Rules.{rules}
 use Rattle.meaning.specs.Bits.{bits_of}
 use Rattle.meaning.proofs.Pasted.{paste_take}
 use Rattle.bits.proofs.copy_some.Goals as goal

@@ -3,7 +3,6 @@ use mathlib.Core.Path.{◌≡◌, ap, ◌∙◌}
 use Prim.Native.Nat.{ℕ, ◌-◌, ◌/◌, ◌%◌}
 use native.Mathlib.Omega.{arith}
 use lib.ListN.{set, get_or}
-use borrow.Author.Rules.{rules}
 use Rattle.meaning.specs.Bits.{to_bits}
 use Rattle.bits.proofs.OfBytes.{set_bits_of}
 use Rattle.bits.proofs.put_bit.Goals as goal

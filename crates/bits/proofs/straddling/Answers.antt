@@ -4,7 +4,6 @@ use mathlib.Core.List.{◌++◌}
 use Prim.Native.Nat.{ℕ, ◌+◌, ◌-◌, ◌*◌, ◌/◌, ◌%◌, ◌^◌, ◌<◌}
 use native.Mathlib.Omega.{arith}
 use lib.Pow.{shr_lt}
-use borrow.Author.Rules.{rules}
 use Rattle.meaning.specs.Bits.{to_bits}
 use Rattle.bits.proofs.Parts.{to_bits_shifted, shifted_below}
 use Rattle.bits.proofs.straddling.Goals as goal

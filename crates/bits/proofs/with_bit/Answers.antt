@@ -7,7 +7,6 @@ use native.Mathlib.Omega.{arith}
 use lib.ListN.{set}
 use lib.Pow.{split, shr_le}
 use mir.Val.{bool_byte}
-use borrow.Author.Rules.{rules}
 use Rattle.meaning.specs.Bits.{bit, to_bits}
 use Rattle.bits.proofs.Numbers.{to_bits_put, put_below}
 use Rattle.bits.proofs.with_bit.Goals as goal

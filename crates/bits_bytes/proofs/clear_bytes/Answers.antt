@@ -1,9 +1,9 @@
 -- `bits_bytes::clear_bytes` meets its contract. The loop's invariant: the first bytes are written, and the rest is as it was. Assumes nothing.
 use mathlib.Core.Path.{◌≡◌, refl, sym, ap, ◌∙◌}
 use mathlib.Core.Bool.{false}
-use Prim.Native.Nat.{◌+◌, ◌-◌, ◌*◌, ◌≤◌}
+use Prim.Native.Nat.{◌+◌, ◌*◌}
 use native.Mathlib.Omega.{arith}
-use lib.ListN.{length, length-set, length-replicate}
+use lib.ListN.{length-set, length-replicate}
 use lib.Seq.{paste, paste-zero}
 use borrow.Author.Rules.{rules}
 use Rattle.meaning.specs.Bits.{bits_of, zeros}

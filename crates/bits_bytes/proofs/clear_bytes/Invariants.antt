@@ -1,15 +1,9 @@
 -- `bits_bytes::clear_bytes` meets its contract. The loop's invariant: the first bytes are written, and the rest is as it was. Assumes nothing.
-use mathlib.Core.Path.{◌≡◌, refl, sym, ap, ◌∙◌}
-use mathlib.Core.Bool.{false}
-use Prim.Native.Nat.{◌+◌, ◌-◌, ◌*◌, ◌≤◌}
-use native.Mathlib.Omega.{arith}
-use lib.ListN.{length, length-set, length-replicate}
-use lib.Seq.{paste, paste-zero}
-use borrow.Author.Rules.{rules}
+use mathlib.Core.Path.{◌≡◌}
+use Prim.Native.Nat.{◌-◌, ◌*◌, ◌≤◌}
+use lib.ListN.{length}
+use lib.Seq.{paste}
 use Rattle.meaning.specs.Bits.{bits_of, zeros}
-use Rattle.bits.proofs.OfBytes.{length_bits_of}
-use Rattle.bits.proofs.Parts.{zeros_part}
-use Rattle.bits.proofs.Stores.{byte_step}
 use Rattle.bits_bytes.proofs.clear_bytes.Given as goal
 
 abbrev pub invariant-loop-cleared : goal.invariant-loop-cleared

@@ -1,14 +1,9 @@
 -- `bits_bytes::copy_shifted` meets its contract. The loop's invariant: the first bytes are written, and the rest is as it was. Assumes nothing.
-use mathlib.Core.Path.{◌≡◌, refl, ap, ◌∙◌}
-use Prim.Native.Nat.{◌+◌, ◌-◌, ◌*◌, ◌≤◌}
-use native.Mathlib.Omega.{arith}
-use lib.ListN.{length, drop, length-drop, length-set}
-use lib.Seq.{paste, paste-zero}
-use borrow.Author.Rules.{rules}
+use mathlib.Core.Path.{◌≡◌}
+use Prim.Native.Nat.{◌-◌, ◌*◌, ◌≤◌}
+use lib.ListN.{length, drop}
+use lib.Seq.{paste}
 use Rattle.meaning.specs.Bits.{bits_of}
-use Rattle.bits.proofs.OfBytes.{length_bits_of}
-use Rattle.bits.proofs.Parts.{two_bytes_after}
-use Rattle.bits.proofs.Stores.{byte_step}
 use Rattle.bits_bytes.proofs.copy_shifted.Given as goal
 
 abbrev pub invariant-loop-shifted : goal.invariant-loop-shifted

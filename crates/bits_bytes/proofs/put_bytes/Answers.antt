@@ -1,8 +1,8 @@
 -- `bits_bytes::put_bytes` meets its contract. The loop's invariant: the first bytes are written, and the rest is as it was. Assumes nothing.
 use mathlib.Core.Path.{◌≡◌, refl, sym, ap, ◌∙◌}
-use Prim.Native.Nat.{ℕ, ◌+◌, ◌-◌, ◌*◌, ◌/◌, ◌%◌, ◌^◌, ◌≤◌, ◌<◌}
+use Prim.Native.Nat.{ℕ, ◌+◌, ◌-◌, ◌*◌, ◌/◌, ◌%◌, ◌^◌, ◌<◌}
 use native.Mathlib.Omega.{arith}
-use lib.ListN.{length, take, drop, length-set}
+use lib.ListN.{take, drop, length-set}
 use lib.Seq.{paste, paste-zero}
 use borrow.Author.Rules.{rules}
 use Rattle.meaning.specs.Bits.{bits_of, to_bits}

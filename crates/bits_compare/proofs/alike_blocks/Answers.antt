@@ -1,10 +1,9 @@
 -- `bits_compare::alike_blocks` meets its contract. The loop's invariant: the bits passed are alike. Assumes nothing.
 use mathlib.Core.Path.{◌≡◌}
-use Prim.Native.Nat.{◌-◌, ◌*◌}
+use Prim.Native.Nat.{◌*◌}
 use native.Mathlib.Omega.{arith}
 use borrow.Author.Rules.{rules}
 use Rattle.meaning.specs.Bits.{bits_of}
-use Rattle.bits_compare.specs.Alike.{Alike}
 use Rattle.bits_compare.proofs.Comparing.{alike_more}
 use Rattle.bits_compare.proofs.alike_blocks.Goals as goal
 

@@ -1,6 +1,6 @@
 -- `bits_compare::order_bits` meets its contract. The loop's invariant: the bits passed are alike. Assumes nothing.
 use mathlib.Core.Path.{◌≡◌, refl, sym, ap, ◌∙◌, subst}
-use Prim.Native.Nat.{◌-◌, Ordering}
+use Prim.Native.Nat.{Ordering}
 use lib.ListN.{take, drop}
 use native.Mathlib.Omega.{arith}
 use borrow.Author.Rules.{rules}

@@ -6,7 +6,6 @@ use Prim.Native.Nat.{ℕ}
 use native.Mathlib.Omega.{arith}
 use lib.Dec.{eqb}
 use lib.ListN.{take, drop}
-use borrow.Author.Rules.{rules}
 use Rattle.meaning.specs.Bits.{bits_of}
 use Rattle.bits_compare.proofs.Comparing.{same_by_order}
 use Rattle.bits.proofs.OfBytes.{length_bits_of}

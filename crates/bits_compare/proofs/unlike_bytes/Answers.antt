@@ -1,7 +1,7 @@
 -- `bits_compare::unlike_bytes` meets its contract. The loop's invariant: where none of the bytes seen was counted, they are alike. Assumes nothing.
 use mathlib.Core.Path.{◌≡◌, refl, sym, ap, ◌∙◌, subst}
 use mathlib.Core.Bool.{Bool, true, false, not}
-use Prim.Native.Nat.{◌+◌, ◌-◌, ◌*◌, ◌≤◌}
+use Prim.Native.Nat.{◌+◌, ◌*◌, ◌≤◌}
 use native.Mathlib.Omega.{arith}
 use mir.Val.{bool_byte}
 use lib.Dec.{eqb}

@@ -1,11 +1,8 @@
 -- `checked_limits::node_limit` meets its contract, rung by rung. Assumes nothing.
 use mathlib.Core.Path.{◌≡◌, refl, sym, ap, ◌∙◌}
-use mathlib.Core.Bool.{Bool, true, false}
-use Prim.Native.Nat.{ℕ}
-use native.Mathlib.Omega.{arith}
+use mathlib.Core.Bool.{Bool, false}
 use lib.Dec.{ltb, leb}
 use lib.ListN.{get_or}
-use borrow.Author.Rules.{rules}
 use borrow.Author.Tests.{le-leb, lt-leb, lt-ltb, le-ltb}
 use Rattle.meaning.specs.Groups.{fact_in}
 use Rattle.checked_limits.proofs.Limits.{first_two, first_three, first_four, first_none}

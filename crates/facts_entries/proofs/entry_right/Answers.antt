@@ -1,5 +1,5 @@
 -- `facts_entries::entry_right` meets its contract: each return by its kind and the tests that led to it. Assumes nothing.
-use mathlib.Core.Path.{◌≡◌, sym, ◌∙◌}
+use mathlib.Core.Path.{sym, ◌∙◌}
 use borrow.Author.Tests.{eq-eqb, ne_eqb, lt-ltb, le-ltb}
 use Rattle.facts_entries.proofs.Entries.{sides_unit, sides_node, sides_other}
 use Rattle.facts_entries.proofs.entry_right.Goals as goal

@@ -1,11 +1,8 @@
 -- `facts_entries::first_bad_entry` meets its contract. The loop's invariant: the entries below k are right. Assumes nothing.
 use native.Mathlib.Omega.{arith}
-use Prim.Native.Nat.{ℕ, ◌≤◌, ◌<◌, ◌-◌}
 use mathlib.Core.Path.{◌≡◌, sym, ◌∙◌}
-use mathlib.Core.Bool.{true}
 use borrow.Author.Rules.{rules}
 use borrow.Author.Count.{below_none, below_more}
-use borrow.Author.Tests.{not-true, not-false}
 use Rattle.meaning.specs.Tables.{columns, entry_right}
 use Rattle.facts_entries.proofs.Entries.{bad_entry_here, no_bad_entry}
 use Rattle.facts_entries.proofs.first_bad_entry.Goals as goal

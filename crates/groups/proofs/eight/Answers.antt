@@ -1,5 +1,4 @@
 -- `groups::eight` meets its contract. Assumes nothing.
-use borrow.Author.Rules.{rules}
 use native.Mathlib.Omega.{arith}
 use Rattle.groups.proofs.Lows.{low_eight}
 use Rattle.groups.proofs.eight.Goals as goal

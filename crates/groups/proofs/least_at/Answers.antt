@@ -1,5 +1,4 @@
 -- `groups::least_at` meets its contract. Assumes nothing.
-use borrow.Author.Rules.{rules}
 use native.Mathlib.Omega.{arith}
 use mathlib.Core.Path.{sym, ◌∙◌}
 use Rattle.meaning.proofs.Groups.{fact_at}

@@ -5,7 +5,6 @@ use mathlib.Core.List.{List, ◌++◌, append_assoc}
 use native.Mathlib.Omega.{arith}
 use lib.ListN.{length, length-append}
 use lib.Seq.{paste}
-use borrow.Author.Rules.{rules}
 use Rattle.meaning.specs.Groups.{low_bytes, group, group_size}
 use Rattle.meaning.proofs.Groups.{length_low_bytes}
 use Rattle.meaning.proofs.Pasted.{paste_append}

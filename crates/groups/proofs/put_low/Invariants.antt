@@ -1,15 +1,9 @@
 -- `groups::put_low` meets its contract. The loop's invariant: i bytes are laid, and what is left of the number has the others. Assumes nothing.
-use Prim.Native.Nat.{ℕ, suc, ◌+◌, ◌-◌, ◌≤◌, ◌<◌}
-use mathlib.Core.Path.{◌≡◌, refl, sym, ap, ap₂, ◌∙◌}
-use mathlib.Core.List.{List}
-use native.Mathlib.Omega.{arith}
-use native.Mathlib.Numerals.{add-one}
-use lib.ListN.{length, drop, get_or, set, length-set}
-use lib.Seq.{paste, paste-zero, paste-suc}
-use borrow.Author.Rules.{rules}
+use Prim.Native.Nat.{◌-◌, ◌≤◌}
+use mathlib.Core.Path.{◌≡◌}
+use lib.ListN.{length, drop}
+use lib.Seq.{paste}
 use Rattle.meaning.specs.Groups.{low_bytes}
-use Rattle.meaning.proofs.Groups.{length_low_bytes}
-use Rattle.groups.proofs.Lows.{low_next, low_head}
 use Rattle.groups.proofs.put_low.Given as goal
 
 abbrev pub invariant-loop-i : goal.invariant-loop-i

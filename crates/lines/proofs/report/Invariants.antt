@@ -1,18 +1,12 @@
--- `lines::report` meets its contract. The loop's invariant: after the first line stand the lines of the first k nodes, each within
--- its room. The measure is how many are left. Assumes nothing.
-use Prim.Native.Nat.{◌+◌, ◌*◌, ◌-◌, ◌≤◌, ◌<◌}
-use mathlib.Core.Path.{◌≡◌, refl, ap, sym, ◌∙◌}
-use mathlib.Core.List.{◌++◌}
-use native.Mathlib.Omega.{arith}
-use lib.ListN.{length, get_or}
-use borrow.Author.Rules.{rules}
-use Rattle.meaning.specs.Groups.{group_size}
+-- The loop of `lines::report`: after the first line stand the lines of the first k nodes, each within its room. The measure is how
+-- many are left.
+use Prim.Native.Nat.{◌+◌, ◌*◌, ◌-◌, ◌≤◌}
+use mathlib.Core.Path.{◌≡◌}
+use lib.ListN.{length}
 use Rattle.meaning.specs.Tables.{facts_in}
-use Rattle.lines_digits.specs.Report.{head_line, node_line, line_in, lines_to}
+use Rattle.lines_digits.specs.Report.{line_in, lines_to}
 use Rattle.lines_digits.specs.Buffer.{PutAt}
-use Rattle.lines_digits.proofs.Puts.{wrote_then, wrote_text, wrote_none, printed}
-use Rattle.lines.specs.Room.{head_room, line_room}
-use Rattle.lines.proofs.Lines.{head-room, line-room, lines_more}
+use Rattle.lines.specs.Room.{line_room}
 use Rattle.lines.proofs.report.Given as goal
 
 abbrev pub invariant-loop-k : goal.invariant-loop-k

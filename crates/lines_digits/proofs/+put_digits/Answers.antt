@@ -36,10 +36,6 @@ overflow_add-result t c =
     let a = c.args in
     omega (arith, c.requires, c.well_formed.0.0, one_byte a.n (omega arith))
 
-pub shape_of-out-then-n-lt10 : goal.shape_of-out-then-n-lt10
-shape_of-out-then-n-lt10 t c =
-    simp length-set
-
 pub returns-then-n-lt10 : goal.returns-then-n-lt10
 returns-then-n-lt10 t c =
     let a = c.args in
@@ -48,7 +44,7 @@ returns-then-n-lt10 t c =
 
 pub put_digits-last-requires : goal.put_digits-last-requires
 put_digits-last-requires t c =
-    let h : 10 ≤ c.args.n = omega (arith, c.if-n-lt10.false) in
+    let h : 10 ≤ c.args.n = omega arith in
     (omega arith, omega (arith, c.requires, one_less c.args.n h c.ranges.n.fits))
 
 pub overflow_cast-out-2 : goal.overflow_cast-out-2
@@ -61,13 +57,13 @@ overflow_add-out-2 t c =
 
 pub bounds-out-last : goal.bounds-out-last
 bounds-out-last t c =
-    let h : 10 ≤ c.args.n = omega (arith, c.if-n-lt10.false) in
+    let h : 10 ≤ c.args.n = omega arith in
     let w = c.put_digits-last in
     omega (arith, c.requires, c.put_digits-last.auto.out, w.ensures.ends, one_less c.args.n h c.ranges.n.fits)
 
 pub overflow_add-result-2 : goal.overflow_add-result-2
 overflow_add-result-2 t c =
-    let h : 10 ≤ c.args.n = omega (arith, c.if-n-lt10.false) in
+    let h : 10 ≤ c.args.n = omega arith in
     let w = c.put_digits-last in
     omega (arith, c.requires, c.well_formed.0.0, w.ensures.ends, one_less c.args.n h c.ranges.n.fits)
 
@@ -78,7 +74,7 @@ shape_of-out t c =
 
 pub returns : goal.returns
 returns t c =
-    let h : 10 ≤ c.args.n = omega (arith, c.if-n-lt10.false) in
+    let h : 10 ≤ c.args.n = omega arith in
     let w = c.put_digits-last in
     let a = c.args in
     let l = one_less a.n h c.ranges.n.fits in

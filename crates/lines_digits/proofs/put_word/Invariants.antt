@@ -1,12 +1,9 @@
 -- `lines_digits::put_word` meets its contract. The loop's invariant: the first k bytes of the word are written. The measure is how many are left.
 -- Assumes nothing.
-use Prim.Native.Nat.{ℕ, ◌+◌, ◌-◌, ◌≤◌}
-use mathlib.Core.Path.{◌≡◌, refl, ap, sym, ◌∙◌}
-use mathlib.Core.List.{List, ◌++◌}
-use native.Mathlib.Numerals.{add-one}
-use native.Mathlib.Omega.{arith}
-use lib.ListN.{length, take, drop, set, get_or, length-set}
-use lib.Seq.{paste, paste-zero, paste-suc, take-length}
+use Prim.Native.Nat.{◌-◌, ◌≤◌}
+use mathlib.Core.Path.{◌≡◌}
+use lib.ListN.{length}
+use lib.Seq.{paste}
 use Rattle.lines_digits.proofs.put_word.Given as goal
 
 abbrev pub invariant-loop-k : goal.invariant-loop-k
