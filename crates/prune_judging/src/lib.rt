@@ -1,5 +1,7 @@
 // Whether a record can be cut to a target: a walk that only reads. Equal types means equal class, never equal nodes. The walk recurses on node
 // numbers, which fall at every call.
+#![tactic(auto)]
+
 ghost use Rattle.std.specs.Prelude.{◌≡◌};
 ghost use Rattle.meaning.specs.Types.{bits};
 ghost use Rattle.meaning.specs.Tables.{table};

@@ -2,26 +2,26 @@
 --
 --   cuts                        whether the record that a walk was sent to can be cut to its target
 --   record-bits cut-bits        the record has as many bits as its type; an accepted cut has as many as the target
---   Step                        a walk whose record's node and whose target were read
+--   Step step_of                a walk whose record's node and whose target were read
 --   equal_bits equal_width      nodes of one class are of one width, as it was read and as it is
 --   unit_width                  a target of kind 0 has no bits
 --   step_equal step_unit step_unlike step_like      the cut where a rule needs no further walk
---   SumStep two_sums step_sum accepts_sum       the cut of a sum, by the cut of its payload
+--   SumStep sum_step_of two_sums step_sum accepts_sum       the cut of a sum, by the cut of its payload
 --   named_sum run_sum falls_sum         the walk to the payload
 --   spans_sum before_sum wrapped_sum    what is written before the payload
---   ProductStep step_product accepts_product first_decides second_decides       the cut of a product, by the cuts of its parts
+--   ProductStep product_step_of step_product accepts_product first_decides second_decides       the cut of a product, by the cuts of its parts
 --   named_first run_first falls_first named_second run_second falls_second      the walks to the parts
 --   first_product spans_product         where the parts lie in the target
 -- Assumes nothing.
 use mathlib.Core.Path.{◌≡◌, ap, ap₂, sym, ◌∙◌, subst}
-use mathlib.Core.Bool.{Bool, true, false, not, ◌&&◌, false≢true}
+use mathlib.Core.Bool.{Bool, true, false, ◌&&◌, false≢true}
 use mathlib.Core.List.{List, [], ◌∷◌, ◌++◌}
 use mathlib.Core.Logic.{⊎_elim}
 use mathlib.Core.Option.{none, some}
 use Prim.Native.Nat.{ℕ, ◌+◌, ◌-◌, ◌≤◌, ◌<◌}
 use native.Mathlib.Omega.{arith}
 use lib.Dec.{eqb}
-use borrow.Author.Tests.{eqb-true, eqb-false, not-true, not-false}
+use borrow.Author.Tests.{eqb-true, eqb-false}
 use lib.ListN.{length, get_or, take, drop}
 use Rattle.meaning.specs.Types.{Ty, sum, prod, same, bits}
 use Rattle.meaning.specs.Tables.{Table}
@@ -42,9 +42,10 @@ use Rattle.checked.proofs.Nodes.{own_width, side_read, same_class, other_class}
 use Rattle.laws.proofs.CutSides.{side, wrapped}
 use Rattle.laws.proofs.CutRules.{cut_same, cut_unit, cut_product}
 use Rattle.laws.proofs.CutLaws.{length_cut}
-use Rattle.prune_sides.specs.Sides.{UnderTag, Sums}
+use Rattle.prune_sides.specs.Sides.{UnderTag, Sums, TakenSide}
 use Rattle.prune_sides.specs.declared.Payload.{Payload}
-use Rattle.prune_sides.proofs.CutSteps.{before, cut_tag, cut_unlike, tag_run, within_run, first_run, second_run, cut_is, wrapped_bits}
+use Rattle.prune_sides.specs.declared.Taken.{Taken}
+use Rattle.prune_sides.proofs.CutSteps.{cut_tag, cut_unlike, tag_run, within_run, first_run, second_run, cut_is, wrapped_bits}
 use Rattle.prune_sides.proofs.CutSteps.{is_cut_rebuilt, is_cut_joined}
 use Rattle.prune_sides.proofs.Sides.{sum_bits, some_bits_lem, before_some, Under, under, Parts, parts}
 
@@ -59,6 +60,11 @@ pub record Step (t : Table) (src : List ℕ) (at given target : ℕ) (given-node
   pub run : Run src at (bits (type_at t given))
   pub given_read : Reads t given given-node
   pub target_read : Reads t target target-node
+
+pub step_of : {t : Table} {src : List ℕ} {at given target : ℕ} {given-node target-node : Node} → Named t given → Named t target
+    → Run src at (bits (type_at t given)) → Reads t given given-node → Reads t target target-node
+    → Step t src at given target given-node target-node
+step_of a b r e f = record { given_named = a; target_named = b; run = r; given_read = e; target_read = f }
 
 module _ (t : Table) (src : List ℕ) (at given : ℕ) (r : Run src at (bits (type_at t given))) where
   pub record-bits : length (record_bits t (record_of src at given)) ≡ bits (type_at t given)
@@ -128,6 +134,13 @@ pub record SumStep (t : Table) (src : List ℕ) (at given target : ℕ) (given-n
   pub tag_is : g ≡ get_or (bits_of src) at false
   pub from : UnderTag given-node g p
   pub to : UnderTag target-node g q
+
+pub sum_step_of : {t : Table} {src : List ℕ} {at given target : ℕ} {given-node target-node : Node} {s : Taken}
+    → Step t src at given target given-node target-node → (target-node.class ≡ given-node.class → ⊥) → target-node.kind ≡ 1
+    → target-node.kind ≡ given-node.kind → TakenSide src at given-node target-node s
+    → SumStep t src at given target given-node target-node s.tag s.given s.target
+sum_step_of p n one like taken =
+    record { step = p; differ = n; target_sum = one; given_sum = sym like ∙ one; tag_is = taken.tag_is; from = taken.from; to = taken.to }
 
 -- Two nodes that were read and are sums.
 pub two_sums : {t : Table} {src : List ℕ} {at given target : ℕ} {given-node target-node : Node} → Step t src at given target given-node target-node
@@ -203,6 +216,15 @@ pub record ProductStep (t : Table) (src : List ℕ) (at given target : ℕ) (giv
   pub target_product : target-node.kind ≡ 2
   pub given_product : given-node.kind ≡ 2
 
+-- A target with sides that is no sum.
+pub product_step_of : {t : Table} {src : List ℕ} {at given target : ℕ} {given-node target-node : Node}
+    → Step t src at given target given-node target-node → (target-node.class ≡ given-node.class → ⊥) → (target-node.kind ≡ 0 → ⊥)
+    → (target-node.kind ≡ 1 → ⊥) → target-node.kind ≡ given-node.kind → ProductStep t src at given target given-node target-node
+product_step_of {target-node = m} p n no_unit no_sum like =
+    let low = p.target_read.kind_low in
+    let two : m.kind ≡ 2 = omega arith in
+    record { step = p; differ = n; target_product = two; given_product = sym like ∙ two }
+
 module _ {t : Table} {src : List ℕ} {at given target : ℕ} {given-node target-node : Node} (s : ProductStep t src at given target given-node target-node) where
   from_parts : Parts t given given-node
   from_parts = parts t given given-node s.step.given_read s.step.given_named s.given_product
@@ -235,19 +257,19 @@ module _ {t : Table} {src : List ℕ} {at given target : ℕ} {given-node target
       (cut_of t (record_of src (at + given-node.left_width) given-node.right) target-node.right)
 
   -- A first part that cannot be cut decides; else the second does.
-  pub first_decides : (r : Bool) → r ≡ cuts t src at given-node.left target-node.left → not r ≡ true → false ≡ cuts t src at given target
+  pub first_decides : (r : Bool) → r ≡ cuts t src at given-node.left target-node.left → r ≡ false → false ≡ cuts t src at given target
   first_decides r e n =
       sym
       (accepts_product
-      ∙ ap (λ (x : Bool). x && cuts t src (at + given-node.left_width) given-node.right target-node.right) (sym e ∙ not-true r n))
+      ∙ ap (λ (x : Bool). x && cuts t src (at + given-node.left_width) given-node.right target-node.right) (sym e ∙ n))
 
-  pub second_decides : (r x : Bool) → r ≡ cuts t src at given-node.left target-node.left → not r ≡ false
+  pub second_decides : (r x : Bool) → r ≡ cuts t src at given-node.left target-node.left → r ≡ true
       → x ≡ cuts t src (at + given-node.left_width) given-node.right target-node.right → x ≡ cuts t src at given target
   second_decides r x e n f =
       f
       ∙ sym
       (accepts_product
-      ∙ ap (λ (y : Bool). y && cuts t src (at + given-node.left_width) given-node.right target-node.right) (sym e ∙ not-false r n))
+      ∙ ap (λ (y : Bool). y && cuts t src (at + given-node.left_width) given-node.right target-node.right) (sym e ∙ n))
 
   pub named_first : Named t given-node.left × Named t target-node.left
   named_first = (from_parts.first_named, to_parts.first_named)

@@ -1,5 +1,7 @@
 // Writes the cut of a record, by the four rules of document 01 in their order. Equal types means equal class, never equal nodes. The walk
 // recurses on node numbers, which fall at every call.
+#![tactic(auto)]
+
 ghost use Rattle.std.specs.Prelude.{◌≡◌, true};
 ghost use Rattle.std.proofs.Math.Seq.{paste};
 ghost use Rattle.meaning.specs.Types.{bits};

@@ -1,7 +1,6 @@
 -- `prune_sides::under_tag` meets its contract. Assumes nothing.
 use mathlib.Core.Path.{ap, sym, subst}
 use Prim.Native.Nat.{◌-◌, ◌≤◌}
-use borrow.Author.Rules.{rules}
 use Rattle.nodes.specs.declared.Side.{Side}
 use Rattle.prune_sides.proofs.under_tag.Goals as goal
 
