@@ -159,7 +159,7 @@ overflow_add-result c =
         within t s a.node h c.if-ends_early.ensures,
         (streamed t s a.node h).begins,
         c.ranges.until.fits,
-      )
+      );
     }
 
 pub returns : goal.returns
