@@ -6,6 +6,8 @@
 // Rattle: recorded answers are replayed through what C calls, and their contracts can be named where pairs of results are settled.
 // The files are the parts of the calls. The parts `types`, `word_types` and `words` are `type_calls`, `word_type_calls`
 // and `word_calls` here, since no module has the name of a crate that is called.
+#![tactic(auto)]
+
 mod buffers;
 mod codecs;
 mod comparing;
