@@ -2,6 +2,8 @@
 // too. Else unit: nothing. Else a sum: the tag, zero padding, and the payload cut to that side. Else a product: both parts cut.
 // Anything else is wrong shape. Equal types means equal class, never equal nodes.
 // One walk judges and only reads, a second one writes: a refusal has changed nothing.
+#![tactic(auto)]
+
 ghost use Rattle.std.specs.Prelude.{◌≡◌};
 ghost use Rattle.meaning.specs.Tables.{table};
 ghost use Rattle.meaning.specs.Ladder.{record_of};

@@ -2,6 +2,8 @@
 // the next width bits, from the top of each byte.
 // The calls that this file names are the crate's interface. None expects anything of its input: each runs its whole ladder of refusals in the
 // order of their numbers, then acts through one inner function that relies on what was checked. A refusal changes no byte.
+#![tactic(auto)]
+
 mod comparing;
 mod constructors;
 mod lengths;
