@@ -3,9 +3,8 @@
 --
 --   done_settled count_settled flag_settled sides_settled facts_settled spot_settled spots_settled order_settled
 -- Assumes nothing.
-use Prim.Native.Nat.{ℕ, Ordering}
-use mathlib.Core.Path.{◌≡◌, refl, sym, ◌∙◌, ap, ap₂}
-use mathlib.Core.Bool.{Bool, false}
+use Prim.Native.Nat.{Ordering}
+use mathlib.Core.Path.{◌≡◌, refl, sym, ◌∙◌, ap}
 use Rattle.meaning.specs.Tables as tables
 use Rattle.meaning.specs.TypeCalls as types
 use Rattle.meaning.specs.RecordCalls as records
@@ -24,7 +23,7 @@ use Rattle.answers.specs.declared.SpotAnswer.{SpotAnswer}
 use Rattle.answers.specs.declared.SpotsAnswer.{SpotsAnswer}
 use Rattle.answers.specs.declared.Order.{Order}
 use Rattle.answers.specs.declared.OrderAnswer.{OrderAnswer}
-use Rattle.answers.specs.Verdicts.{refusal_of, done_of, count_of, flag_of, sides_of, facts_of, spot, spot_of, spots_of, order, order_of}
+use Rattle.answers.specs.Verdicts.{refusal_of, done_of, count_of, flag_of, sides_of, facts_of, spot_of, spots_of, order, order_of}
 
 -- What was accepted, or a value where nothing was.
 abbrev value_of : {A : Type 0} → A → Answer A → A

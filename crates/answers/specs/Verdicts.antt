@@ -14,7 +14,6 @@ use Rattle.answers.specs.declared.Refusal.{Refusal}
 use Rattle.answers.specs.declared.Done.{Done}
 use Rattle.answers.specs.declared.Count.{Count}
 use Rattle.answers.specs.declared.Flag.{Flag}
-use Rattle.answers.specs.declared.Sides.{Sides}
 use Rattle.answers.specs.declared.SidesAnswer.{SidesAnswer}
 use Rattle.answers.specs.declared.Facts.{Facts}
 use Rattle.answers.specs.declared.FactsAnswer.{FactsAnswer}

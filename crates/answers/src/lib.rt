@@ -1,5 +1,6 @@
 // What the public calls answer: an enum by value for each shape of accepted value, with the refusal in its other case.
 // `specs/` says by cases which of document 01's numbers and values each stands for.
+#![tactic(auto)]
 
 // A refusal: its number on the ladder, and its place.
 #[derive(Clone, Copy)]

@@ -1,6 +1,5 @@
 -- `facts_classes::chain` meets its contract: a node of its own class goes to the head of its slot, and any other changes nothing. Assumes nothing.
-use mathlib.Core.Path.{◌≡◌, sym, ◌∙◌}
-use borrow.Author.Rules.{rules}
+use mathlib.Core.Path.{sym, ◌∙◌}
 use Rattle.facts_classes.proofs.Linking.{chain_put, chain_skip}
 use Rattle.facts_classes.proofs.chain.Goals as goal
 

@@ -3,14 +3,12 @@
 use Prim.Native.Nat.{◌<◌}
 use mathlib.Core.Path.{◌≡◌, sym, ◌∙◌}
 use mathlib.Core.Bool.{true}
-use mathlib.Core.Logic.{⊎_elim}
 use native.Mathlib.Omega.{arith}
 use lib.ListN.{get_or}
-use borrow.Author.Rules.{rules}
 use Rattle.meaning.specs.Tables.{Columns, columns, facts_in, left, right, class_of, entry_right}
 use Rattle.facts_classes.specs.Chains.{slot_at, Last, InSlot, Keyed}
 use Rattle.facts_entries.proofs.Entries.{left_within, right_within}
-use Rattle.facts_classes.proofs.Linking.{Along, last_falls, along_start, along_next, along_found, along_end, along_own}
+use Rattle.facts_classes.proofs.Linking.{last_falls, along_start, along_next, along_found, along_end, along_own}
 use Rattle.facts_classes.proofs.find.Lts as lts
 use Rattle.facts_classes.proofs.find.Tie as tie
 use Rattle.facts_classes.proofs.find.Reads as reads

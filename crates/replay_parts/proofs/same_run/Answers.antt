@@ -1,5 +1,4 @@
 -- `replay_parts::same_run` meets its contract: the front of the output is a part of it. Assumes nothing.
-use borrow.Author.Rules.{rules}
 use native.Mathlib.Omega.{arith}
 use lib.ListN.{length-take}
 use Rattle.replay_parts.proofs.same_run.Goals as goal

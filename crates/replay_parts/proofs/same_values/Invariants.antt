@@ -1,5 +1,4 @@
 -- `replay_parts::same_values` meets its contract: its indices are below the number of values, and it ends. Assumes nothing.
-use borrow.Author.Rules.{rules}
 use Prim.Native.Nat.{◌≤◌, ◌-◌}
 use Rattle.replay_parts.proofs.same_values.Given as goal
 

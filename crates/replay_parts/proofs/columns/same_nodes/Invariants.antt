@@ -1,5 +1,4 @@
 -- `replay_parts::columns::same_nodes` meets its contract: the nodes fit the columns and the groups, and are all in the list. Assumes nothing.
-use borrow.Author.Rules.{rules}
 use Prim.Native.Nat.{◌≤◌, ◌-◌}
 use Rattle.replay_parts.proofs.columns.same_nodes.Given as goal
 

@@ -1,5 +1,4 @@
 -- `replay_parts::columns::turned` meets its contract: it never reads past either run. Assumes nothing.
-use borrow.Author.Rules.{rules}
 use Prim.Native.Nat.{◌≤◌, ◌-◌}
 use Rattle.replay_parts.proofs.columns.turned.Given as goal
 
