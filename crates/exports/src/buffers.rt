@@ -10,8 +10,7 @@ use exports_answers::tell_count;
 use words::HashState;
 
 // Data as a record of buffer type n.
-#[unsafe(no_mangle)]
-pub extern "C" fn qv_buffer8_two_n_plus_one(
+pub fn qv_buffer8_two_n_plus_one(
     kinds: &[u8],
     lefts: &[u16],
     rights: &[u16],
@@ -80,8 +79,7 @@ fn hash_state(midstate: &[u8], bytes_hashed: u64, buffer: &[u8]) -> HashState
 }
 
 // A hash state: midstate, count of hashed bytes, and the buffered bytes alone.
-#[unsafe(no_mangle)]
-pub extern "C" fn qv_ctx8(
+pub fn qv_ctx8(
     kinds: &[u8],
     lefts: &[u16],
     rights: &[u16],

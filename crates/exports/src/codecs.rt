@@ -8,8 +8,7 @@ ghost use Rattle.exports_answers.specs.Codes.{code, stored};
 use exports_answers::tell_count;
 
 // Reads a record from its compact bits; padding is zero. Accepted: the next position.
-#[unsafe(no_mangle)]
-pub extern "C" fn qv_from_compact_bits(
+pub fn qv_from_compact_bits(
     kinds: &[u8],
     lefts: &[u16],
     rights: &[u16],
@@ -33,8 +32,7 @@ pub extern "C" fn qv_from_compact_bits(
 }
 
 // Reads a record from its padded bits; padding is as read. Accepted: the next position.
-#[unsafe(no_mangle)]
-pub extern "C" fn qv_from_padded_bits(
+pub fn qv_from_padded_bits(
     kinds: &[u8],
     lefts: &[u16],
     rights: &[u16],
@@ -58,8 +56,7 @@ pub extern "C" fn qv_from_padded_bits(
 }
 
 // Writes the compact bits of a record. Accepted: how many they are.
-#[unsafe(no_mangle)]
-pub extern "C" fn qv_to_compact_bits(
+pub fn qv_to_compact_bits(
     kinds: &[u8],
     lefts: &[u16],
     rights: &[u16],
@@ -84,8 +81,7 @@ pub extern "C" fn qv_to_compact_bits(
 }
 
 // Writes the padded bits of a record. Accepted: how many they are.
-#[unsafe(no_mangle)]
-pub extern "C" fn qv_to_padded_bits(
+pub fn qv_to_padded_bits(
     kinds: &[u8],
     lefts: &[u16],
     rights: &[u16],

@@ -8,8 +8,7 @@ ghost use Rattle.exports_answers.specs.Codes.{code, stored_flag, stored_order};
 use exports_answers::{tell_flag, tell_order};
 
 // Whether two records have the same type and the same bits.
-#[unsafe(no_mangle)]
-pub extern "C" fn qv_equal(
+pub fn qv_equal(
     kinds: &[u8],
     lefts: &[u16],
     rights: &[u16],
@@ -36,8 +35,7 @@ pub extern "C" fn qv_equal(
 }
 
 // Accepted: the order of two records, by class and then by the first differing bit.
-#[unsafe(no_mangle)]
-pub extern "C" fn qv_compare(
+pub fn qv_compare(
     kinds: &[u8],
     lefts: &[u16],
     rights: &[u16],

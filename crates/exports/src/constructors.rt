@@ -8,8 +8,7 @@ ghost use Rattle.exports_answers.specs.Codes.{code, stored};
 use exports_answers::tell_count;
 
 // The record of unit.
-#[unsafe(no_mangle)]
-pub extern "C" fn qv_unit(
+pub fn qv_unit(
     kinds: &[u8],
     lefts: &[u16],
     rights: &[u16],
@@ -30,8 +29,7 @@ pub extern "C" fn qv_unit(
 }
 
 // The record of zero bits, of any type.
-#[unsafe(no_mangle)]
-pub extern "C" fn qv_zero(
+pub fn qv_zero(
     kinds: &[u8],
     lefts: &[u16],
     rights: &[u16],
@@ -52,8 +50,7 @@ pub extern "C" fn qv_zero(
 }
 
 // A left record around its payload.
-#[unsafe(no_mangle)]
-pub extern "C" fn qv_left(
+pub fn qv_left(
     kinds: &[u8],
     lefts: &[u16],
     rights: &[u16],
@@ -79,8 +76,7 @@ pub extern "C" fn qv_left(
 }
 
 // A right record around its payload.
-#[unsafe(no_mangle)]
-pub extern "C" fn qv_right(
+pub fn qv_right(
     kinds: &[u8],
     lefts: &[u16],
     rights: &[u16],
@@ -106,8 +102,7 @@ pub extern "C" fn qv_right(
 }
 
 // Two records as one.
-#[unsafe(no_mangle)]
-pub extern "C" fn qv_product(
+pub fn qv_product(
     kinds: &[u8],
     lefts: &[u16],
     rights: &[u16],
@@ -137,8 +132,7 @@ pub extern "C" fn qv_product(
 }
 
 // The left record of unit, of a sum that begins with unit.
-#[unsafe(no_mangle)]
-pub extern "C" fn qv_none(
+pub fn qv_none(
     kinds: &[u8],
     lefts: &[u16],
     rights: &[u16],
@@ -159,8 +153,7 @@ pub extern "C" fn qv_none(
 }
 
 // The right record of a payload, of the sum of unit and its type.
-#[unsafe(no_mangle)]
-pub extern "C" fn qv_some(
+pub fn qv_some(
     kinds: &[u8],
     lefts: &[u16],
     rights: &[u16],

@@ -8,8 +8,7 @@ ghost use Rattle.exports_answers.specs.Codes.{code, stored};
 use exports_answers::tell_count;
 
 // Cuts a record to a target type. Accepted: its width.
-#[unsafe(no_mangle)]
-pub extern "C" fn qv_prune(
+pub fn qv_prune(
     kinds: &[u8],
     lefts: &[u16],
     rights: &[u16],

@@ -8,8 +8,7 @@ ghost use Rattle.exports_answers.specs.Codes.{code, stored};
 use exports_answers::tell_count;
 
 // Two records of the same word type as a record of the next.
-#[unsafe(no_mangle)]
-pub extern "C" fn qv_word_product(
+pub fn qv_word_product(
     kinds: &[u8],
     lefts: &[u16],
     rights: &[u16],
@@ -39,8 +38,7 @@ pub extern "C" fn qv_word_product(
 }
 
 // Reads word n from a stream. Accepted: the next position.
-#[unsafe(no_mangle)]
-pub extern "C" fn qv_word_from_bits(
+pub fn qv_word_from_bits(
     kinds: &[u8],
     lefts: &[u16],
     rights: &[u16],

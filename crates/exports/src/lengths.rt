@@ -8,8 +8,7 @@ ghost use Rattle.exports_answers.specs.Codes.{code, stored};
 use exports_answers::tell_count;
 
 // Accepted: how many compact bits a record has.
-#[unsafe(no_mangle)]
-pub extern "C" fn qv_compact_len(
+pub fn qv_compact_len(
     kinds: &[u8],
     lefts: &[u16],
     rights: &[u16],
@@ -30,8 +29,7 @@ pub extern "C" fn qv_compact_len(
 }
 
 // Accepted: the width of a record.
-#[unsafe(no_mangle)]
-pub extern "C" fn qv_padded_len(
+pub fn qv_padded_len(
     kinds: &[u8],
     lefts: &[u16],
     rights: &[u16],

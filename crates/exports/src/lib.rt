@@ -2,10 +2,12 @@
 // number + 256 · place of the refusal. What was accepted goes to numbers and slices that the caller lends, and a refusal leaves all of them as
 // they stood. The position of a stream is lent too: an accepted reading moves it.
 // No call expects anything of its input. Each hands on to the call that it is named after and is proved against that call's definition.
-// `include/quelomavunt.h` declares them. They are public to Rattle too: recorded answers are replayed through what C calls, and their contracts
-// can be named where pairs of results are settled.
+// `exports_c` gives them to C, under the same names and clauses, and `include/quelomavunt.h` declares them there. Here they are public to
+// Rattle: recorded answers are replayed through what C calls, and their contracts can be named where pairs of results are settled.
 // The files are the parts of the calls. The parts `types`, `word_types` and `words` are `type_calls`, `word_type_calls`
 // and `word_calls` here, since no module has the name of a crate that is called.
+#![tactic(auto)]
+
 mod buffers;
 mod codecs;
 mod comparing;

@@ -7,8 +7,7 @@ ghost use Rattle.exports_answers.specs.Codes.{code, stored};
 use exports_answers::{tell_count, tell_done};
 
 // Reads a table from its file into lent columns, with the groups of its facts. Accepted: its count.
-#[unsafe(no_mangle)]
-pub extern "C" fn qv_read_table(
+pub fn qv_read_table(
     file: &[u8],
     kinds: &mut [u8],
     lefts: &mut [u16],
@@ -27,8 +26,7 @@ pub extern "C" fn qv_read_table(
 }
 
 // Computes the facts of a table from its entries.
-#[unsafe(no_mangle)]
-pub extern "C" fn qv_fill_facts(
+pub fn qv_fill_facts(
     kinds: &[u8],
     lefts: &[u16],
     rights: &[u16],
@@ -42,8 +40,7 @@ pub extern "C" fn qv_fill_facts(
 }
 
 // Whether a table and its facts are sound.
-#[unsafe(no_mangle)]
-pub extern "C" fn qv_check_table(
+pub fn qv_check_table(
     kinds: &[u8],
     lefts: &[u16],
     rights: &[u16],

@@ -7,8 +7,7 @@ ghost use Rattle.exports_answers.specs.Codes.{code, stored, stored_flag, roomy, 
 use exports_answers::{tell_count, tell_facts, tell_flag, tell_sides};
 
 // Accepted: width, size, padded, class, kind, left, right and least compact length of a node.
-#[unsafe(no_mangle)]
-pub extern "C" fn qv_facts_of(
+pub fn qv_facts_of(
     kinds: &[u8],
     lefts: &[u16],
     rights: &[u16],
@@ -27,8 +26,7 @@ pub extern "C" fn qv_facts_of(
 }
 
 // Whether two nodes have the same type.
-#[unsafe(no_mangle)]
-pub extern "C" fn qv_same_type(
+pub fn qv_same_type(
     kinds: &[u8],
     lefts: &[u16],
     rights: &[u16],
@@ -48,8 +46,7 @@ pub extern "C" fn qv_same_type(
 }
 
 // Whether a type is unit.
-#[unsafe(no_mangle)]
-pub extern "C" fn qv_is_unit(
+pub fn qv_is_unit(
     kinds: &[u8],
     lefts: &[u16],
     rights: &[u16],
@@ -68,8 +65,7 @@ pub extern "C" fn qv_is_unit(
 }
 
 // Whether a type has no width.
-#[unsafe(no_mangle)]
-pub extern "C" fn qv_is_empty(
+pub fn qv_is_empty(
     kinds: &[u8],
     lefts: &[u16],
     rights: &[u16],
@@ -88,8 +84,7 @@ pub extern "C" fn qv_is_empty(
 }
 
 // Accepted: the sides of a sum.
-#[unsafe(no_mangle)]
-pub extern "C" fn qv_type_as_sum(
+pub fn qv_type_as_sum(
     kinds: &[u8],
     lefts: &[u16],
     rights: &[u16],
@@ -108,8 +103,7 @@ pub extern "C" fn qv_type_as_sum(
 }
 
 // Accepted: the sides of a product.
-#[unsafe(no_mangle)]
-pub extern "C" fn qv_type_as_product(
+pub fn qv_type_as_product(
     kinds: &[u8],
     lefts: &[u16],
     rights: &[u16],
@@ -128,8 +122,7 @@ pub extern "C" fn qv_type_as_product(
 }
 
 // Accepted: the padding of left records of the sum of two types.
-#[unsafe(no_mangle)]
-pub extern "C" fn qv_pad_left(
+pub fn qv_pad_left(
     kinds: &[u8],
     lefts: &[u16],
     rights: &[u16],
@@ -149,8 +142,7 @@ pub extern "C" fn qv_pad_left(
 }
 
 // Accepted: the padding of right records of the sum of two types.
-#[unsafe(no_mangle)]
-pub extern "C" fn qv_pad_right(
+pub fn qv_pad_right(
     kinds: &[u8],
     lefts: &[u16],
     rights: &[u16],

@@ -8,8 +8,7 @@ ghost use Rattle.exports_answers.specs.Codes.{code, roomy, stored_all, spot_list
 use exports_answers::{tell_view, tell_views};
 
 // Accepted: offset and node of the payload of a left record.
-#[unsafe(no_mangle)]
-pub extern "C" fn qv_as_left(
+pub fn qv_as_left(
     kinds: &[u8],
     lefts: &[u16],
     rights: &[u16],
@@ -30,8 +29,7 @@ pub extern "C" fn qv_as_left(
 }
 
 // Accepted: offset and node of the payload of a right record.
-#[unsafe(no_mangle)]
-pub extern "C" fn qv_as_right(
+pub fn qv_as_right(
     kinds: &[u8],
     lefts: &[u16],
     rights: &[u16],
@@ -52,8 +50,7 @@ pub extern "C" fn qv_as_right(
 }
 
 // Accepted: offset and node of both parts of a product, the first before the second.
-#[unsafe(no_mangle)]
-pub extern "C" fn qv_as_product(
+pub fn qv_as_product(
     kinds: &[u8],
     lefts: &[u16],
     rights: &[u16],

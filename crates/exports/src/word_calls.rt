@@ -7,8 +7,7 @@ ghost use Rattle.exports_answers.specs.Codes.{code, stored};
 use exports_answers::tell_count;
 
 // A number as a word of 1 bit.
-#[unsafe(no_mangle)]
-pub extern "C" fn qv_u1(
+pub fn qv_u1(
     kinds: &[u8],
     lefts: &[u16],
     rights: &[u16],
@@ -30,8 +29,7 @@ pub extern "C" fn qv_u1(
 }
 
 // A number as a word of 2 bits.
-#[unsafe(no_mangle)]
-pub extern "C" fn qv_u2(
+pub fn qv_u2(
     kinds: &[u8],
     lefts: &[u16],
     rights: &[u16],
@@ -53,8 +51,7 @@ pub extern "C" fn qv_u2(
 }
 
 // A number as a word of 4 bits.
-#[unsafe(no_mangle)]
-pub extern "C" fn qv_u4(
+pub fn qv_u4(
     kinds: &[u8],
     lefts: &[u16],
     rights: &[u16],
@@ -76,8 +73,7 @@ pub extern "C" fn qv_u4(
 }
 
 // 1 big-endian byte as a word of 8 bits.
-#[unsafe(no_mangle)]
-pub extern "C" fn qv_u8(
+pub fn qv_u8(
     kinds: &[u8],
     lefts: &[u16],
     rights: &[u16],
@@ -99,8 +95,7 @@ pub extern "C" fn qv_u8(
 }
 
 // 2 big-endian bytes as a word of 16 bits.
-#[unsafe(no_mangle)]
-pub extern "C" fn qv_u16(
+pub fn qv_u16(
     kinds: &[u8],
     lefts: &[u16],
     rights: &[u16],
@@ -122,8 +117,7 @@ pub extern "C" fn qv_u16(
 }
 
 // 4 big-endian bytes as a word of 32 bits.
-#[unsafe(no_mangle)]
-pub extern "C" fn qv_u32(
+pub fn qv_u32(
     kinds: &[u8],
     lefts: &[u16],
     rights: &[u16],
@@ -145,8 +139,7 @@ pub extern "C" fn qv_u32(
 }
 
 // 8 big-endian bytes as a word of 64 bits.
-#[unsafe(no_mangle)]
-pub extern "C" fn qv_u64(
+pub fn qv_u64(
     kinds: &[u8],
     lefts: &[u16],
     rights: &[u16],
@@ -168,8 +161,7 @@ pub extern "C" fn qv_u64(
 }
 
 // 16 big-endian bytes as a word of 128 bits.
-#[unsafe(no_mangle)]
-pub extern "C" fn qv_u128(
+pub fn qv_u128(
     kinds: &[u8],
     lefts: &[u16],
     rights: &[u16],
@@ -191,8 +183,7 @@ pub extern "C" fn qv_u128(
 }
 
 // 32 big-endian bytes as a word of 256 bits.
-#[unsafe(no_mangle)]
-pub extern "C" fn qv_u256(
+pub fn qv_u256(
     kinds: &[u8],
     lefts: &[u16],
     rights: &[u16],
@@ -214,8 +205,7 @@ pub extern "C" fn qv_u256(
 }
 
 // 64 big-endian bytes as a word of 512 bits.
-#[unsafe(no_mangle)]
-pub extern "C" fn qv_u512(
+pub fn qv_u512(
     kinds: &[u8],
     lefts: &[u16],
     rights: &[u16],
@@ -237,8 +227,7 @@ pub extern "C" fn qv_u512(
 }
 
 // A power of two of bytes as the word of so many bits.
-#[unsafe(no_mangle)]
-pub extern "C" fn qv_from_byte_array(
+pub fn qv_from_byte_array(
     kinds: &[u8],
     lefts: &[u16],
     rights: &[u16],

@@ -7,8 +7,7 @@ ghost use Rattle.exports_answers.specs.Codes.{code, stored, stored_flag};
 use exports_answers::{tell_count, tell_flag};
 
 // Accepted: the n of a word type.
-#[unsafe(no_mangle)]
-pub extern "C" fn qv_as_word(
+pub fn qv_as_word(
     kinds: &[u8],
     lefts: &[u16],
     rights: &[u16],
@@ -27,8 +26,7 @@ pub extern "C" fn qv_as_word(
 }
 
 // Accepted: the width of word type n.
-#[unsafe(no_mangle)]
-pub extern "C" fn qv_word_width(n: usize, width: &mut u64) -> u64
+pub fn qv_word_width(n: usize, width: &mut u64) -> u64
     ensures value { result ≡ code (word_width_call n) }
     ensures width_after { width.new ≡ stored (word_width_call n) width.old }
 {
@@ -36,8 +34,7 @@ pub extern "C" fn qv_word_width(n: usize, width: &mut u64) -> u64
 }
 
 // Accepted: the width of buffer type n.
-#[unsafe(no_mangle)]
-pub extern "C" fn qv_buffer_width(n: usize, width: &mut u64) -> u64
+pub fn qv_buffer_width(n: usize, width: &mut u64) -> u64
     ensures value { result ≡ code (buffer_width_call n) }
     ensures width_after { width.new ≡ stored (buffer_width_call n) width.old }
 {
@@ -45,8 +42,7 @@ pub extern "C" fn qv_buffer_width(n: usize, width: &mut u64) -> u64
 }
 
 // Whether a type is buffer type n.
-#[unsafe(no_mangle)]
-pub extern "C" fn qv_is_buffer8(
+pub fn qv_is_buffer8(
     kinds: &[u8],
     lefts: &[u16],
     rights: &[u16],
@@ -66,8 +62,7 @@ pub extern "C" fn qv_is_buffer8(
 }
 
 // Whether a type is the hash state's.
-#[unsafe(no_mangle)]
-pub extern "C" fn qv_is_ctx8(
+pub fn qv_is_ctx8(
     kinds: &[u8],
     lefts: &[u16],
     rights: &[u16],

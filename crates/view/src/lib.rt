@@ -1,6 +1,8 @@
 // Views: the caller's bytes by reference, with a bit offset and a node. A sub-view keeps the bytes and moves offset and node only.
-// Each function over a view takes it apart and calls a covered one on slice and numbers; its proof is a walk by hand. A caller with no walk calls
-// those, or `left_spot`. Assumes nothing of its input, and refuses what the function that it calls refuses.
+// Each function over a view takes it apart and calls one on slice and numbers. A caller that keeps no view calls those, or `left_spot`.
+// Assumes nothing of its input, and refuses what the function that it calls refuses.
+#![tactic(auto)]
+
 ghost use Rattle.std.specs.Prelude.{◌≡◌};
 ghost use Rattle.meaning.specs.Tables.{table};
 ghost use Rattle.meaning.specs.Ladder.{record_of};
@@ -142,7 +144,7 @@ pub fn equal<'a, 'b>(
     )
 }
 
-// For callers without a walk: where the payload of a left record stands, by way of its view.
+// For callers that keep no view: where the payload of a left record stands, by way of its view.
 pub fn left_spot(
     kinds: &[u8],
     lefts: &[u16],

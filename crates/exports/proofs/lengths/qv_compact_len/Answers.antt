@@ -1,0 +1,13 @@
+-- `exports::lengths::qv_compact_len` meets its contract: what crosses is what the call says, and its place is near. Assumes nothing.
+use borrow.Author.Rules.{rules}
+use Rattle.exports.proofs.Nears.{compact_len_near}
+use Rattle.exports_answers.proofs.Crossing.{crossing}
+use Rattle.exports.proofs.lengths.qv_compact_len.Goals as goal
+
+pub tell_count-requires : goal.tell_count-requires
+tell_count-requires c =
+    search (crossing, compact_len_near)
+
+pub returns : goal.returns
+returns c =
+    record { value = search crossing; bits_after = search crossing }

@@ -1,0 +1,13 @@
+-- `exports::tables::qv_fill_facts` meets its contract: what crosses is what the call says, and its place is near. Assumes nothing.
+use borrow.Author.Rules.{rules}
+use Rattle.exports.proofs.Places.{fill_near}
+use Rattle.exports_answers.proofs.Crossing.{crossing}
+use Rattle.exports.proofs.tables.qv_fill_facts.Goals as goal
+
+pub tell_done-requires : goal.tell_done-requires
+tell_done-requires c =
+    search (crossing, fill_near)
+
+pub returns : goal.returns
+returns c =
+    record { value = search crossing; groups_after = search crossing }

@@ -1,0 +1,13 @@
+-- `exports::tables::qv_read_table` meets its contract: what crosses is what the call says, and its place is near. Assumes nothing.
+use borrow.Author.Rules.{rules}
+use Rattle.exports.proofs.Offsets.{read_near}
+use Rattle.exports_answers.proofs.Crossing.{crossing}
+use Rattle.exports.proofs.tables.qv_read_table.Goals as goal
+
+pub tell_count-requires : goal.tell_count-requires
+tell_count-requires c =
+    search (crossing, read_near)
+
+pub returns : goal.returns
+returns c =
+    record { value = search crossing; count_after = search crossing; kinds_after = search crossing; lefts_after = search crossing; rights_after = search crossing; groups_after = search crossing }

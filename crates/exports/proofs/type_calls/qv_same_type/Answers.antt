@@ -1,0 +1,13 @@
+-- `exports::type_calls::qv_same_type` meets its contract: what crosses is what the call says, and its place is near. Assumes nothing.
+use borrow.Author.Rules.{rules}
+use Rattle.exports.proofs.Nears.{same_type_near}
+use Rattle.exports_answers.proofs.Crossing.{crossing}
+use Rattle.exports.proofs.type_calls.qv_same_type.Goals as goal
+
+pub tell_flag-requires : goal.tell_flag-requires
+tell_flag-requires c =
+    search (crossing, same_type_near)
+
+pub returns : goal.returns
+returns c =
+    record { value = search crossing; answer_after = search crossing }

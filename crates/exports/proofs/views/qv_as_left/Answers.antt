@@ -1,0 +1,13 @@
+-- `exports::views::qv_as_left` meets its contract: what crosses is what the call says, and its place is near. Assumes nothing.
+use borrow.Author.Rules.{rules}
+use Rattle.exports.proofs.Nears.{as_left_near}
+use Rattle.exports_answers.proofs.Crossing.{crossing}
+use Rattle.exports.proofs.views.qv_as_left.Goals as goal
+
+pub tell_view-requires : goal.tell_view-requires
+tell_view-requires c =
+    search (crossing, as_left_near)
+
+pub returns : goal.returns
+returns c =
+    record { value = search crossing; view_after = search crossing }

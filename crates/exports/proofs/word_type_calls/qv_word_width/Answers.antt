@@ -1,0 +1,13 @@
+-- `exports::word_type_calls::qv_word_width` meets its contract: what crosses is what the call says, and its place is near. Assumes nothing.
+use borrow.Author.Rules.{rules}
+use Rattle.exports.proofs.Nears.{word_width_near}
+use Rattle.exports_answers.proofs.Crossing.{crossing}
+use Rattle.exports.proofs.word_type_calls.qv_word_width.Goals as goal
+
+pub tell_count-requires : goal.tell_count-requires
+tell_count-requires c =
+    search (crossing, word_width_near)
+
+pub returns : goal.returns
+returns c =
+    record { value = search crossing; width_after = search crossing }

@@ -1,0 +1,163 @@
+// Constructors for C. Accepted: the width of the result, whose record stands at bit 0 of the output.
+ghost use Rattle.std.specs.Prelude.{◌≡◌};
+ghost use Rattle.meaning.specs.Tables.{table};
+ghost use Rattle.meaning.specs.Ladder.{record_of};
+ghost use Rattle.meaning.specs.RecordCalls.{unit_call, unit_out, left_call, left_out, right_call, right_out, product_call, product_out, none_call, none_out, some_call, some_out, zero_call, zero_out};
+ghost use Rattle.exports_answers.specs.Codes.{code, stored};
+
+// The record of unit.
+#[unsafe(no_mangle)]
+pub extern "C" fn qv_unit(
+    kinds: &[u8],
+    lefts: &[u16],
+    rights: &[u16],
+    groups: &[u8],
+    count: usize,
+    res: usize,
+    width: &mut u64,
+    out: &mut [u8],
+) -> u64
+    ensures value { result ≡ code (unit_call (table kinds.now lefts.now rights.now groups.now count) res out.old) }
+    ensures width_after { width.new ≡ stored (unit_call (table kinds.now lefts.now rights.now groups.now count) res out.old) width.old }
+    ensures out_after { out.new ≡ unit_out (table kinds.now lefts.now rights.now groups.now count) res out.old }
+{
+    exports::qv_unit(kinds, lefts, rights, groups, count, res, width, out)
+}
+
+// The record of zero bits, of any type.
+#[unsafe(no_mangle)]
+pub extern "C" fn qv_zero(
+    kinds: &[u8],
+    lefts: &[u16],
+    rights: &[u16],
+    groups: &[u8],
+    count: usize,
+    res: usize,
+    width: &mut u64,
+    out: &mut [u8],
+) -> u64
+    ensures value { result ≡ code (zero_call (table kinds.now lefts.now rights.now groups.now count) res out.old) }
+    ensures width_after { width.new ≡ stored (zero_call (table kinds.now lefts.now rights.now groups.now count) res out.old) width.old }
+    ensures out_after { out.new ≡ zero_out (table kinds.now lefts.now rights.now groups.now count) res out.old }
+{
+    exports::qv_zero(kinds, lefts, rights, groups, count, res, width, out)
+}
+
+// A left record around its payload.
+#[unsafe(no_mangle)]
+pub extern "C" fn qv_left(
+    kinds: &[u8],
+    lefts: &[u16],
+    rights: &[u16],
+    groups: &[u8],
+    count: usize,
+    bytes: &[u8],
+    offset: usize,
+    node: usize,
+    res: usize,
+    width: &mut u64,
+    out: &mut [u8],
+) -> u64
+    ensures value { result ≡ code (left_call (table kinds.now lefts.now rights.now groups.now count) (record_of bytes.now offset node) res out.old) }
+    ensures width_after { width.new ≡ stored (left_call (table kinds.now lefts.now rights.now groups.now count) (record_of bytes.now offset node) res out.old) width.old }
+    ensures out_after { out.new ≡ left_out (table kinds.now lefts.now rights.now groups.now count) (record_of bytes.now offset node) res out.old }
+{
+    exports::qv_left(
+        kinds, lefts, rights, groups, count, bytes, offset, node, res, width, out,
+    )
+}
+
+// A right record around its payload.
+#[unsafe(no_mangle)]
+pub extern "C" fn qv_right(
+    kinds: &[u8],
+    lefts: &[u16],
+    rights: &[u16],
+    groups: &[u8],
+    count: usize,
+    bytes: &[u8],
+    offset: usize,
+    node: usize,
+    res: usize,
+    width: &mut u64,
+    out: &mut [u8],
+) -> u64
+    ensures value { result ≡ code (right_call (table kinds.now lefts.now rights.now groups.now count) (record_of bytes.now offset node) res out.old) }
+    ensures width_after { width.new ≡ stored (right_call (table kinds.now lefts.now rights.now groups.now count) (record_of bytes.now offset node) res out.old) width.old }
+    ensures out_after { out.new ≡ right_out (table kinds.now lefts.now rights.now groups.now count) (record_of bytes.now offset node) res out.old }
+{
+    exports::qv_right(
+        kinds, lefts, rights, groups, count, bytes, offset, node, res, width, out,
+    )
+}
+
+// Two records as one.
+#[unsafe(no_mangle)]
+pub extern "C" fn qv_product(
+    kinds: &[u8],
+    lefts: &[u16],
+    rights: &[u16],
+    groups: &[u8],
+    count: usize,
+    a_bytes: &[u8],
+    a_offset: usize,
+    a_node: usize,
+    b_bytes: &[u8],
+    b_offset: usize,
+    b_node: usize,
+    res: usize,
+    width: &mut u64,
+    out: &mut [u8],
+) -> u64
+    ensures value { result ≡ code (product_call (table kinds.now lefts.now rights.now groups.now count) (record_of a_bytes.now a_offset a_node) (record_of b_bytes.now b_offset b_node) res out.old) }
+    ensures width_after { width.new ≡ stored (product_call (table kinds.now lefts.now rights.now groups.now count) (record_of a_bytes.now a_offset a_node) (record_of b_bytes.now b_offset b_node) res out.old) width.old }
+    ensures out_after { out.new ≡ product_out (table kinds.now lefts.now rights.now groups.now count) (record_of a_bytes.now a_offset a_node) (record_of b_bytes.now b_offset b_node) res out.old }
+{
+    exports::qv_product(
+        kinds, lefts, rights, groups, count, a_bytes, a_offset, a_node, b_bytes, b_offset, b_node,
+        res, width, out,
+    )
+}
+
+// The left record of unit, of a sum that begins with unit.
+#[unsafe(no_mangle)]
+pub extern "C" fn qv_none(
+    kinds: &[u8],
+    lefts: &[u16],
+    rights: &[u16],
+    groups: &[u8],
+    count: usize,
+    res: usize,
+    width: &mut u64,
+    out: &mut [u8],
+) -> u64
+    ensures value { result ≡ code (none_call (table kinds.now lefts.now rights.now groups.now count) res out.old) }
+    ensures width_after { width.new ≡ stored (none_call (table kinds.now lefts.now rights.now groups.now count) res out.old) width.old }
+    ensures out_after { out.new ≡ none_out (table kinds.now lefts.now rights.now groups.now count) res out.old }
+{
+    exports::qv_none(kinds, lefts, rights, groups, count, res, width, out)
+}
+
+// The right record of a payload, of the sum of unit and its type.
+#[unsafe(no_mangle)]
+pub extern "C" fn qv_some(
+    kinds: &[u8],
+    lefts: &[u16],
+    rights: &[u16],
+    groups: &[u8],
+    count: usize,
+    bytes: &[u8],
+    offset: usize,
+    node: usize,
+    res: usize,
+    width: &mut u64,
+    out: &mut [u8],
+) -> u64
+    ensures value { result ≡ code (some_call (table kinds.now lefts.now rights.now groups.now count) (record_of bytes.now offset node) res out.old) }
+    ensures width_after { width.new ≡ stored (some_call (table kinds.now lefts.now rights.now groups.now count) (record_of bytes.now offset node) res out.old) width.old }
+    ensures out_after { out.new ≡ some_out (table kinds.now lefts.now rights.now groups.now count) (record_of bytes.now offset node) res out.old }
+{
+    exports::qv_some(
+        kinds, lefts, rights, groups, count, bytes, offset, node, res, width, out,
+    )
+}

@@ -1,0 +1,225 @@
+// Words from numbers and from big-endian bytes, for C. Accepted: the width of the result, whose record stands at bit 0 of the output.
+ghost use Rattle.std.specs.Prelude.{◌≡◌};
+ghost use Rattle.meaning.specs.Tables.{table};
+ghost use Rattle.meaning.specs.WordCalls.{number_call, number_out, bytes_call, bytes_out, array_call, array_out};
+ghost use Rattle.exports_answers.specs.Codes.{code, stored};
+
+// A number as a word of 1 bit.
+#[unsafe(no_mangle)]
+pub extern "C" fn qv_u1(
+    kinds: &[u8],
+    lefts: &[u16],
+    rights: &[u16],
+    groups: &[u8],
+    count: usize,
+    number: u64,
+    res: usize,
+    width: &mut u64,
+    out: &mut [u8],
+) -> u64
+    ensures value { result ≡ code (number_call (table kinds.now lefts.now rights.now groups.now count) 0 number res out.old) }
+    ensures width_after { width.new ≡ stored (number_call (table kinds.now lefts.now rights.now groups.now count) 0 number res out.old) width.old }
+    ensures out_after { out.new ≡ number_out (table kinds.now lefts.now rights.now groups.now count) 0 number res out.old }
+{
+    exports::qv_u1(kinds, lefts, rights, groups, count, number, res, width, out)
+}
+
+// A number as a word of 2 bits.
+#[unsafe(no_mangle)]
+pub extern "C" fn qv_u2(
+    kinds: &[u8],
+    lefts: &[u16],
+    rights: &[u16],
+    groups: &[u8],
+    count: usize,
+    number: u64,
+    res: usize,
+    width: &mut u64,
+    out: &mut [u8],
+) -> u64
+    ensures value { result ≡ code (number_call (table kinds.now lefts.now rights.now groups.now count) 1 number res out.old) }
+    ensures width_after { width.new ≡ stored (number_call (table kinds.now lefts.now rights.now groups.now count) 1 number res out.old) width.old }
+    ensures out_after { out.new ≡ number_out (table kinds.now lefts.now rights.now groups.now count) 1 number res out.old }
+{
+    exports::qv_u2(kinds, lefts, rights, groups, count, number, res, width, out)
+}
+
+// A number as a word of 4 bits.
+#[unsafe(no_mangle)]
+pub extern "C" fn qv_u4(
+    kinds: &[u8],
+    lefts: &[u16],
+    rights: &[u16],
+    groups: &[u8],
+    count: usize,
+    number: u64,
+    res: usize,
+    width: &mut u64,
+    out: &mut [u8],
+) -> u64
+    ensures value { result ≡ code (number_call (table kinds.now lefts.now rights.now groups.now count) 2 number res out.old) }
+    ensures width_after { width.new ≡ stored (number_call (table kinds.now lefts.now rights.now groups.now count) 2 number res out.old) width.old }
+    ensures out_after { out.new ≡ number_out (table kinds.now lefts.now rights.now groups.now count) 2 number res out.old }
+{
+    exports::qv_u4(kinds, lefts, rights, groups, count, number, res, width, out)
+}
+
+// 1 big-endian byte as a word of 8 bits.
+#[unsafe(no_mangle)]
+pub extern "C" fn qv_u8(
+    kinds: &[u8],
+    lefts: &[u16],
+    rights: &[u16],
+    groups: &[u8],
+    count: usize,
+    data: &[u8],
+    res: usize,
+    width: &mut u64,
+    out: &mut [u8],
+) -> u64
+    ensures value { result ≡ code (bytes_call (table kinds.now lefts.now rights.now groups.now count) 3 «data».now res out.old) }
+    ensures width_after { width.new ≡ stored (bytes_call (table kinds.now lefts.now rights.now groups.now count) 3 «data».now res out.old) width.old }
+    ensures out_after { out.new ≡ bytes_out (table kinds.now lefts.now rights.now groups.now count) 3 «data».now res out.old }
+{
+    exports::qv_u8(kinds, lefts, rights, groups, count, data, res, width, out)
+}
+
+// 2 big-endian bytes as a word of 16 bits.
+#[unsafe(no_mangle)]
+pub extern "C" fn qv_u16(
+    kinds: &[u8],
+    lefts: &[u16],
+    rights: &[u16],
+    groups: &[u8],
+    count: usize,
+    data: &[u8],
+    res: usize,
+    width: &mut u64,
+    out: &mut [u8],
+) -> u64
+    ensures value { result ≡ code (bytes_call (table kinds.now lefts.now rights.now groups.now count) 4 «data».now res out.old) }
+    ensures width_after { width.new ≡ stored (bytes_call (table kinds.now lefts.now rights.now groups.now count) 4 «data».now res out.old) width.old }
+    ensures out_after { out.new ≡ bytes_out (table kinds.now lefts.now rights.now groups.now count) 4 «data».now res out.old }
+{
+    exports::qv_u16(kinds, lefts, rights, groups, count, data, res, width, out)
+}
+
+// 4 big-endian bytes as a word of 32 bits.
+#[unsafe(no_mangle)]
+pub extern "C" fn qv_u32(
+    kinds: &[u8],
+    lefts: &[u16],
+    rights: &[u16],
+    groups: &[u8],
+    count: usize,
+    data: &[u8],
+    res: usize,
+    width: &mut u64,
+    out: &mut [u8],
+) -> u64
+    ensures value { result ≡ code (bytes_call (table kinds.now lefts.now rights.now groups.now count) 5 «data».now res out.old) }
+    ensures width_after { width.new ≡ stored (bytes_call (table kinds.now lefts.now rights.now groups.now count) 5 «data».now res out.old) width.old }
+    ensures out_after { out.new ≡ bytes_out (table kinds.now lefts.now rights.now groups.now count) 5 «data».now res out.old }
+{
+    exports::qv_u32(kinds, lefts, rights, groups, count, data, res, width, out)
+}
+
+// 8 big-endian bytes as a word of 64 bits.
+#[unsafe(no_mangle)]
+pub extern "C" fn qv_u64(
+    kinds: &[u8],
+    lefts: &[u16],
+    rights: &[u16],
+    groups: &[u8],
+    count: usize,
+    data: &[u8],
+    res: usize,
+    width: &mut u64,
+    out: &mut [u8],
+) -> u64
+    ensures value { result ≡ code (bytes_call (table kinds.now lefts.now rights.now groups.now count) 6 «data».now res out.old) }
+    ensures width_after { width.new ≡ stored (bytes_call (table kinds.now lefts.now rights.now groups.now count) 6 «data».now res out.old) width.old }
+    ensures out_after { out.new ≡ bytes_out (table kinds.now lefts.now rights.now groups.now count) 6 «data».now res out.old }
+{
+    exports::qv_u64(kinds, lefts, rights, groups, count, data, res, width, out)
+}
+
+// 16 big-endian bytes as a word of 128 bits.
+#[unsafe(no_mangle)]
+pub extern "C" fn qv_u128(
+    kinds: &[u8],
+    lefts: &[u16],
+    rights: &[u16],
+    groups: &[u8],
+    count: usize,
+    data: &[u8],
+    res: usize,
+    width: &mut u64,
+    out: &mut [u8],
+) -> u64
+    ensures value { result ≡ code (bytes_call (table kinds.now lefts.now rights.now groups.now count) 7 «data».now res out.old) }
+    ensures width_after { width.new ≡ stored (bytes_call (table kinds.now lefts.now rights.now groups.now count) 7 «data».now res out.old) width.old }
+    ensures out_after { out.new ≡ bytes_out (table kinds.now lefts.now rights.now groups.now count) 7 «data».now res out.old }
+{
+    exports::qv_u128(kinds, lefts, rights, groups, count, data, res, width, out)
+}
+
+// 32 big-endian bytes as a word of 256 bits.
+#[unsafe(no_mangle)]
+pub extern "C" fn qv_u256(
+    kinds: &[u8],
+    lefts: &[u16],
+    rights: &[u16],
+    groups: &[u8],
+    count: usize,
+    data: &[u8],
+    res: usize,
+    width: &mut u64,
+    out: &mut [u8],
+) -> u64
+    ensures value { result ≡ code (bytes_call (table kinds.now lefts.now rights.now groups.now count) 8 «data».now res out.old) }
+    ensures width_after { width.new ≡ stored (bytes_call (table kinds.now lefts.now rights.now groups.now count) 8 «data».now res out.old) width.old }
+    ensures out_after { out.new ≡ bytes_out (table kinds.now lefts.now rights.now groups.now count) 8 «data».now res out.old }
+{
+    exports::qv_u256(kinds, lefts, rights, groups, count, data, res, width, out)
+}
+
+// 64 big-endian bytes as a word of 512 bits.
+#[unsafe(no_mangle)]
+pub extern "C" fn qv_u512(
+    kinds: &[u8],
+    lefts: &[u16],
+    rights: &[u16],
+    groups: &[u8],
+    count: usize,
+    data: &[u8],
+    res: usize,
+    width: &mut u64,
+    out: &mut [u8],
+) -> u64
+    ensures value { result ≡ code (bytes_call (table kinds.now lefts.now rights.now groups.now count) 9 «data».now res out.old) }
+    ensures width_after { width.new ≡ stored (bytes_call (table kinds.now lefts.now rights.now groups.now count) 9 «data».now res out.old) width.old }
+    ensures out_after { out.new ≡ bytes_out (table kinds.now lefts.now rights.now groups.now count) 9 «data».now res out.old }
+{
+    exports::qv_u512(kinds, lefts, rights, groups, count, data, res, width, out)
+}
+
+// A power of two of bytes as the word of so many bits.
+#[unsafe(no_mangle)]
+pub extern "C" fn qv_from_byte_array(
+    kinds: &[u8],
+    lefts: &[u16],
+    rights: &[u16],
+    groups: &[u8],
+    count: usize,
+    data: &[u8],
+    res: usize,
+    width: &mut u64,
+    out: &mut [u8],
+) -> u64
+    ensures value { result ≡ code (array_call (table kinds.now lefts.now rights.now groups.now count) «data».now res out.old) }
+    ensures width_after { width.new ≡ stored (array_call (table kinds.now lefts.now rights.now groups.now count) «data».now res out.old) width.old }
+    ensures out_after { out.new ≡ array_out (table kinds.now lefts.now rights.now groups.now count) «data».now res out.old }
+{
+    exports::qv_from_byte_array(kinds, lefts, rights, groups, count, data, res, width, out)
+}
