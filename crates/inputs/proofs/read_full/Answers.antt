@@ -5,7 +5,7 @@ use Rattle.std.proofs.lemmas.List.{length-take-le, take-append-le}
 use Rattle.std.proofs.KnownBytes.{Consumes-trans}
 use Rattle.std.specs.Io.KnownBytes.{Consumes}
 use Rattle.std.specs.declared.option.Option.{Option}
-use Rattle.report.proofs.read_full.Goals as goal
+use Rattle.inputs.proofs.read_full.Goals as goal
 
 further : (a b c : Option (List ℕ)) (kept got after : List ℕ) (done n : ℕ)
     → done ≤ length kept → n ≤ length got

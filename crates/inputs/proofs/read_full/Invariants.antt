@@ -1,7 +1,7 @@
 -- What was taken from the input so far stands at the front of the buffer.
 use Rattle.std.proofs.Common.{length, ◌-◌, ◌≤◌, take}
 use Rattle.std.specs.Io.KnownBytes.{Consumes}
-use Rattle.report.proofs.read_full.Given as goal
+use Rattle.inputs.proofs.read_full.Given as goal
 
 abbrev pub invariant-loop-done : goal.invariant-loop-done
 invariant-loop-done g l = record {
