@@ -5,7 +5,7 @@ ghost use Rattle.lists.specs.Parts.{Within, Lent};
 use crate::{MOST_VALUES, Number, Run, byte_at, no_number, number_at, run_at};
 
 // What a call is handed. `next` is where the answer stands.
-#[derive(Drop)]
+#[derive(Clone, Copy)]
 pub struct Request {
     pub a: Run,
     pub a_offset: usize,
@@ -26,7 +26,7 @@ pub struct Request {
 }
 
 // What is expected: the result, the position after the call, how many values are accepted, and the output. `next` is where the next case stands.
-#[derive(Drop)]
+#[derive(Clone, Copy)]
 pub struct Expected {
     pub code: u64,
     pub position: u64,

@@ -7,7 +7,7 @@ use crate::codecs::codecs;
 use crate::constructors::constructors;
 use crate::cuts::cuts;
 use crate::joins::joins;
-use crate::words::{byte_words, number_words};
+use crate::word_calls::{byte_words, number_words};
 use lists::Request;
 
 // One of the calls, from 23 on; any number past the last is the last.

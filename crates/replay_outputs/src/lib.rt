@@ -1,11 +1,13 @@
 // Replays a case of a call that writes an output: constructors, words, buffers and the hash state, the codecs and the cut.
+#![tactic(auto)]
+
 mod ask;
 mod buffers;
 mod codecs;
 mod constructors;
 mod cuts;
 mod joins;
-mod words;
+mod word_calls;
 
 ghost use Rattle.std.specs.Prelude.{◌≤◌, length};
 ghost use Rattle.lists.specs.Parts.{Within, Lent};

@@ -4,9 +4,9 @@ ghost use Rattle.lists.specs.Parts.{Lent};
 
 use crate::comparing::comparing;
 use crate::lengths::lengths;
-use crate::types::types;
+use crate::type_calls::types;
 use crate::views::views;
-use crate::word_types::word_types;
+use crate::word_type_calls::word_types;
 use lists::Request;
 
 // The call of a case, from 3 on; any number past the last is the last. Answers the result.

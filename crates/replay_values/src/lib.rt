@@ -1,11 +1,13 @@
 // Replays a case of a call that writes no record: tables, questions about types, views, comparison and lengths.
+#![tactic(auto)]
+
 mod ask;
 mod comparing;
 mod lengths;
 mod tables;
-mod types;
+mod type_calls;
 mod views;
-mod word_types;
+mod word_type_calls;
 
 ghost use Rattle.std.specs.Prelude.{◌≤◌, length};
 ghost use Rattle.lists.specs.Parts.{Within, Lent};

@@ -1,4 +1,6 @@
 // The report of a table file as text: what the program `report` prints. The file is judged and its facts are found by `table::read_table`.
+#![tactic(auto)]
+
 ghost use Rattle.std.specs.Prelude.{◌≤◌, length};
 ghost use Rattle.lines_digits.specs.Report.{file_text};
 ghost use Rattle.lines_digits.specs.Buffer.{Printed};
