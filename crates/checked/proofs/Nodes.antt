@@ -17,8 +17,8 @@ use Prim.Native.Nat.{ℕ, zero, suc, ◌+◌, ◌-◌, ◌≤◌, ◌<◌, max}
 use native.Mathlib.Omega.{arith}
 use lib.Dec.{eqb}
 use borrow.Author.Tests.{eqb-true, eqb-false, ne_eqb}
-use Rattle.meaning.specs.Types.{Ty, unit, sum, prod, same, bits, width, size, padded, top, is_unit, is_sum, is_prod, left_side, right_side}
-use Rattle.meaning.specs.Tables.{Table, node, class_of}
+use Rattle.meaning.specs.Types.{Ty, sum, prod, same, bits, width, size, padded, top, is_unit, is_sum, is_prod, left_side, right_side}
+use Rattle.meaning.specs.Tables.{Table, node}
 use Rattle.meaning.specs.Ladder.{type_at}
 use Rattle.meaning.proofs.Types.{same_eq, eq_same, width_bits}
 use Rattle.meaning.proofs.Records.{bits_sum, bits_prod}

@@ -5,9 +5,9 @@
 --   handed_passed               1 to 5, of records and more named types
 --   stream_passed               1 to 5, of a stream
 -- Assumes nothing.
-use Prim.Native.Nat.{ℕ, ◌+◌, ◌*◌, ◌<◌, ◌≤◌}
+use Prim.Native.Nat.{ℕ, ◌+◌, ◌*◌}
 use mathlib.Core.Path.{◌≡◌}
-use mathlib.Core.Bool.{Bool, true, false, ◌||◌}
+use mathlib.Core.Bool.{Bool, false, ◌||◌}
 use mathlib.Core.List.{List, [], ◌∷◌, ◌++◌, map}
 use lib.Dec.{ltb, leb}
 use lib.ListN.{length}
@@ -15,7 +15,7 @@ use borrow.Author.Tests.{leb-false, ltb-false}
 use Rattle.meaning.specs.Choice.{any}
 use Rattle.meaning.specs.Types.{bits, size}
 use Rattle.meaning.specs.Tables.{Table, ty_at}
-use Rattle.meaning.specs.Ladder.{Answer, accepted, Rung, rung, ladder, sound, present, small, named, within, stream_fits, Record, Stream, type_of}
+use Rattle.meaning.specs.Ladder.{accepted, rung, ladder, sound, present, small, named, within, stream_fits, Record, Stream, type_of}
 use Rattle.meaning.specs.TypeCalls.{asks}
 use Rattle.meaning.specs.RecordCalls.{handed}
 use Rattle.meaning.specs.CodecCalls.{read_rungs}

@@ -6,14 +6,14 @@
 -- Assumes nothing.
 use Prim.Native.Nat.{ℕ, ◌+◌, ◌≤◌, ◌<◌}
 use mathlib.Core.Path.{◌≡◌, sym, ap, ◌∙◌}
-use mathlib.Core.Bool.{Bool, true, false}
-use mathlib.Core.List.{List, [], ◌∷◌, ◌++◌}
+use mathlib.Core.Bool.{true, false}
+use mathlib.Core.List.{List, [], ◌∷◌}
 use lib.Dec.{ltb}
 use lib.ListN.{length}
 use borrow.Author.Tests.{lt-ltb, le-ltb, ltb-false}
 use Rattle.meaning.specs.Bits.{room, written}
 use Rattle.meaning.specs.Codecs.{Decoded, is_early, decoded_record, consumed}
-use Rattle.meaning.specs.Ladder.{Answer, refused, accepted, Rung, rung, ladder, Stream, room_for}
+use Rattle.meaning.specs.Ladder.{refused, accepted, Rung, rung, ladder, Stream, room_for}
 use Rattle.meaning.specs.CodecCalls.{reads, read_out}
 use Rattle.meaning.proofs.Ladders.{ladder_parts, ladder_pass, ladder_stop, ladder_holds, ladder_fails, ladder_clear, kept_refused, kept_accepted}
 

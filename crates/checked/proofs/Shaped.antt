@@ -9,7 +9,7 @@ use mathlib.Core.Path.{◌≡◌, ap, ◌∙◌}
 use mathlib.Core.Bool.{Bool, true, false, not}
 use mathlib.Core.List.{List, [], ◌++◌}
 use borrow.Author.Tests.{not-false}
-use Rattle.meaning.specs.Ladder.{Answer, refused, accepted, Rung, ladder, ranged, shaped}
+use Rattle.meaning.specs.Ladder.{refused, accepted, Rung, ladder, ranged, shaped}
 use Rattle.meaning.proofs.Ladders.{ladder_parts, ladder_pass, ladder_stop, ladder_holds, ladder_fails, ladder_clear}
 
 pub misshapen : (right : Bool) → right ≡ false → ladder (shaped right) (tt {0}) ≡ refused 7 0

@@ -8,7 +8,7 @@ use Prim.Native.Nat.{ℕ}
 use mathlib.Core.Path.{◌≡◌, refl, ap, sym, ◌∙◌}
 use mathlib.Core.List.{List, [], ◌∷◌, ◌++◌}
 use Rattle.meaning.specs.Tables.{Table, NodeFacts, facts_at}
-use Rattle.meaning.specs.Ladder.{Answer, refused, accepted, Rung, ladder, sound, present}
+use Rattle.meaning.specs.Ladder.{refused, accepted, Rung, ladder, sound, present}
 use Rattle.meaning.specs.TypeCalls.{asks, facts_of_call}
 use Rattle.meaning.proofs.Ladders.{ladder_pass, ladder_stop, ladder_value}
 use Rattle.checked.specs.Passed.{Present}

@@ -7,7 +7,7 @@
 --   true_node true_record       the numbers as they are asked, by the groups, are those of the types
 --   reached                     what asking them takes: groups that reach the count
 -- Assumes nothing.
-use Prim.Native.Nat.{ℕ, ◌+◌, ◌*◌, ◌-◌, ◌<◌, ◌≤◌, min}
+use Prim.Native.Nat.{ℕ, ◌+◌, ◌*◌, ◌-◌, ◌≤◌, min}
 use native.Mathlib.Omega.{arith}
 use mathlib.Core.Path.{◌≡◌, refl, sym, ap, ap₂, ◌∙◌}
 use mathlib.Core.Bool.{Bool, true, false, ◌||◌}
@@ -17,8 +17,8 @@ use lib.ListN.{length, get_or}
 use borrow.Author.Tests.{leb-false, ltb-false}
 use Rattle.meaning.specs.Choice.{any}
 use Rattle.meaning.specs.Types.{Ty, bits, width, size}
-use Rattle.meaning.specs.Tables.{Table, table, ty_at}
-use Rattle.meaning.specs.Ladder.{Answer, refused, accepted, Rung, rung, ladder, sound, named, within, stream_fits, Record, Stream, type_at, type_of}
+use Rattle.meaning.specs.Tables.{Table, table}
+use Rattle.meaning.specs.Ladder.{refused, accepted, Rung, rung, ladder, sound, named, stream_fits, Record, Stream, type_at, type_of}
 use Rattle.meaning.specs.TypeCalls.{check_table_call}
 use Rattle.meaning.specs.RecordCalls.{handed}
 use Rattle.meaning.specs.CodecCalls.{read_rungs}

@@ -3,14 +3,14 @@
 --   misshaped                   a count, a column or groups that are wrong refuse with 1 at 0
 --   faulty_node faultless       else the first node at fault refuses with 1 there; where there is none, it accepts
 -- Assumes nothing.
-use Prim.Native.Nat.{ℕ, ◌<◌, ◌≤◌}
+use Prim.Native.Nat.{◌<◌, ◌≤◌}
 use mathlib.Core.Path.{◌≡◌, refl, ap, ◌∙◌}
 use mathlib.Core.Bool.{Bool, true, false, not}
 use mathlib.Core.List.{[], ◌∷◌}
 use lib.Dec.{ltb}
 use borrow.Author.Tests.{lt-ltb, le-ltb}
 use Rattle.meaning.specs.Tables.{Table, first_bad}
-use Rattle.meaning.specs.Ladder.{Answer, refused, accepted, rung, ladder}
+use Rattle.meaning.specs.Ladder.{refused, accepted, rung, ladder}
 use Rattle.meaning.specs.TypeCalls.{check_table_call}
 use Rattle.meaning.proofs.Ladders.{Shape, shape_right, shape-right, right_shape, ladder_holds, ladder_fails}
 

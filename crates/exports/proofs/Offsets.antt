@@ -5,18 +5,17 @@
 --   number_at_ends number_ends entry_ends entries_ends table_ends   each reading of a file
 --   read_near                   `read_table`
 -- Assumes nothing.
-use Prim.Native.Nat.{ℕ, zero, suc, ◌+◌, ◌*◌, ◌%◌, ◌≤◌, ◌<◌}
+use Prim.Native.Nat.{ℕ, zero, suc, ◌+◌, ◌*◌, ◌%◌, ◌≤◌}
 use mathlib.Core.Path.{◌≡◌, refl}
-use mathlib.Core.Bool.{Bool, true, false, cond, ◌&&◌}
-use mathlib.Core.List.{List, [], ◌∷◌}
+use mathlib.Core.Bool.{Bool, true, false, cond}
+use mathlib.Core.List.{List, ◌∷◌}
 use native.Mathlib.Omega.{arith}
-use native.Mathlib.Numerals.{add-one}
 use lib.ListN.{length, get_or}
 use lib.Dec.{ltb, leb}
 use borrow.Author.Tests.{leb-true}
 use Rattle.meaning.specs.Tables.{Columns, count_right}
 use Rattle.meaning.specs.Files.{Reading, faulty, found, and_then, seven_bit_groups, number_at, number, Entry, entry_of, entry_from, entries_from, ended, table_in}
-use Rattle.meaning.specs.Ladder.{Rung, rung, ladder}
+use Rattle.meaning.specs.Ladder.{Rung, ladder}
 use Rattle.meaning.specs.TypeCalls.{file_rung, read_table_call}
 use Rattle.meaning.proofs.Tests.{and_right}
 use Rattle.exports_answers.specs.Codes.{Near}

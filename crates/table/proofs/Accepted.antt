@@ -6,10 +6,10 @@
 --   read_sound read_checked     a table that is read is sound, and `check_table` accepts it
 --   SameNodes file_unambiguous  two files that are read to the same nodes are the same
 -- Assumes nothing.
-use Prim.Native.Nat.{ℕ, ◌+◌, ◌*◌, ◌<◌, ◌≤◌}
+use Prim.Native.Nat.{ℕ, ◌*◌, ◌<◌, ◌≤◌}
 use mathlib.Core.Path.{◌≡◌, refl, ap, sym, ◌∙◌, subst}
-use mathlib.Core.Bool.{Bool, true, not}
-use mathlib.Core.List.{List, [], ◌∷◌, ◌++◌, map}
+use mathlib.Core.Bool.{not}
+use mathlib.Core.List.{List, ◌++◌, map}
 use native.Mathlib.Omega.{arith}
 use lib.ListN.{length, get_or, drop, length-map, get_or-append, get_or-map}
 use lib.Seq.{ext_get_or}
@@ -17,7 +17,7 @@ use borrow.Author.Tests.{le-leb}
 use Rattle.meaning.specs.Groups.{group_size}
 use Rattle.meaning.specs.Tables.{Columns, Table, facts_in, kind, left, right, entry_right, first_bad_entry}
 use Rattle.meaning.specs.Files.{found, Entry, table_in, columns_of}
-use Rattle.meaning.specs.Ladder.{Answer, accepted, kept}
+use Rattle.meaning.specs.Ladder.{accepted, kept}
 use Rattle.meaning.specs.Checked.{Sound, Bytes}
 use Rattle.meaning.specs.TypeCalls.{groups_written, check_table_call, fill_facts_call, fill_facts_out, read_table_call, read_table_columns_out, read_table_groups_out, entries_in, entries_written, columns_kept}
 use Rattle.meaning.proofs.Choices.{least_none}
@@ -29,8 +29,8 @@ use Rattle.facts.specs.Known.{Fillable}
 use Rattle.files.proofs.Whole.{end_of, accepted_found}
 use Rattle.files.proofs.Unique.{file_unique}
 use Rattle.table_room.proofs.Room.{reached_columns}
-use Rattle.table_filling.proofs.Fillings.{Right, fillable, all_right}
-use Rattle.table_reading.proofs.Readings.{ReadIn, read_in, some_node, fillable_after, groups-after}
+use Rattle.table_filling.proofs.Fillings.{fillable, all_right}
+use Rattle.table_reading.proofs.Readings.{read_in, some_node, fillable_after, groups-after}
 
 -- A table from its entries, its groups and its count.
 abbrev pub table_of : Columns → List ℕ → ℕ → Table

@@ -16,7 +16,7 @@ use lib.ListN.{length}
 use borrow.Author.Tests.{ltb-false, leb-true, lt-ltb, le-ltb, le-leb, lt-leb, not-false}
 use Rattle.meaning.specs.Groups.{group_size}
 use Rattle.meaning.specs.Tables.{Columns, count_right, columns_reach, groups_reach, entry_right, first_bad_entry}
-use Rattle.meaning.specs.Ladder.{Answer, refused, accepted, Rung, rung, ladder, kept}
+use Rattle.meaning.specs.Ladder.{Answer, refused, accepted, Rung, rung, ladder}
 use Rattle.meaning.specs.TypeCalls.{groups_written, fill_facts_call, fill_facts_out}
 use Rattle.meaning.proofs.Tests.{and_left, and_right, and_both, and_no_right}
 use Rattle.meaning.proofs.Choices.{least_before}

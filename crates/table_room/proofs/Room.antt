@@ -4,8 +4,8 @@
 --   reached_columns             columns that are long enough pass it
 -- Assumes nothing.
 use Prim.Native.Nat.{ℕ, ◌≤◌}
-use mathlib.Core.Path.{◌≡◌, refl}
-use mathlib.Core.Bool.{Bool, true, false, ◌&&◌}
+use mathlib.Core.Path.{◌≡◌}
+use mathlib.Core.Bool.{true, ◌&&◌}
 use lib.ListN.{length}
 use borrow.Author.Tests.{leb-true, le-leb}
 use Rattle.meaning.specs.Tables.{Columns, columns_reach, reaches}

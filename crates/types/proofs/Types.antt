@@ -22,7 +22,7 @@ use Rattle.meaning.proofs.Sounds.{sound_tree, sound_kind, sound_width}
 use Rattle.checked.specs.Passed.{Present}
 use Rattle.checked.proofs.Passed.{asked_passed}
 use Rattle.checked_present.proofs.Asking.{judged, answered, asks_swapped}
-use Rattle.checked.proofs.Told.{OwnFacts, own_facts, told_pass, told_answered}
+use Rattle.checked.proofs.Told.{own_facts, told_pass, told_answered}
 
 -- The kinds.
 is-unit : (k : ℕ) (a b : Ty) → eqb k 0 ≡ is_unit (node k a b)

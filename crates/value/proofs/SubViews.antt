@@ -17,7 +17,7 @@ use lib.Dec.{ltb}
 use lib.ListN.{take, drop}
 use borrow.Author.Tests.{not-false}
 use Rattle.meaning.specs.Types.{Ty, bits, top, is_sum, is_prod, left_side, right_side}
-use Rattle.meaning.specs.Tables.{Table, left, right, node}
+use Rattle.meaning.specs.Tables.{Table, left, right}
 use Rattle.meaning.specs.Bits.{bits_of}
 use Rattle.meaning.specs.Records.{tag, left_of, right_of, first_of, second_of}
 use Rattle.meaning.specs.Ladder.{accepted, ladder, Record, record_of, type_at, type_of, record_bits, shaped}

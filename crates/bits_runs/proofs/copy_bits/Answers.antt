@@ -5,7 +5,6 @@ use Prim.Native.Nat.{ℕ, ◌+◌, ◌-◌, ◌*◌, ◌/◌, ◌%◌}
 use native.Mathlib.Omega.{arith}
 use lib.ListN.{take, drop, length-drop}
 use lib.Seq.{paste, drop-drop}
-use borrow.Author.Rules.{rules}
 use Rattle.meaning.specs.Bits.{bits_of}
 use Rattle.bits.proofs.OfBytes.{length_bits_of}
 use Rattle.meaning.proofs.Pasted.{paste_on}

@@ -5,7 +5,6 @@ use mathlib.Core.List.{List}
 use Prim.Native.Nat.{ℕ, ◌-◌, ◌*◌, ◌%◌}
 use native.Mathlib.Omega.{arith}
 use lib.Seq.{paste, paste-zero}
-use borrow.Author.Rules.{rules}
 use Rattle.meaning.specs.Bits.{bits_of, zeros, room}
 use Rattle.bits.proofs.Numbers.{to_bits_zero}
 use Rattle.bits_runs.proofs.finish.Goals as goal

@@ -1,5 +1,4 @@
 -- `checked_nodes::same_type` meets its contract: equal classes are equal types. Assumes nothing.
-use borrow.Author.Rules.{rules}
 use Rattle.meaning.specs.Tables.{Table, table}
 use Rattle.checked.proofs.Nodes.{class_test}
 use Rattle.checked_nodes.proofs.same_type.Lts as lts

@@ -1,5 +1,4 @@
 -- `checked_present::two` meets its contract: the table and the first node, then the second. Assumes nothing.
-use borrow.Author.Rules.{rules}
 use mathlib.Core.Path.{◌≡◌, sym, ◌∙◌, ap}
 use mathlib.Core.List.{[], ◌∷◌}
 use Rattle.meaning.specs.Tables.{Table, table}

@@ -1,15 +1,14 @@
 -- `checked_rungs::named` meets its contract: the table first, then the node; the least number decides. Assumes nothing.
-use borrow.Author.Rules.{rules}
-use Prim.Native.Nat.{ℕ, min}
-use mathlib.Core.Path.{◌≡◌, sym, ap, ap₂, ◌∙◌}
+use Prim.Native.Nat.{ℕ}
+use mathlib.Core.Path.{◌≡◌, sym, ap, ◌∙◌}
 use mathlib.Core.List.{List, [], ◌∷◌}
 use Rattle.answers.specs.Verdicts.{done_of}
 use Rattle.meaning.specs.Tables.{Table, table}
-use Rattle.meaning.specs.Ladder.{accepted, Record, record_of}
+use Rattle.meaning.specs.Ladder.{accepted, Record}
 use Rattle.meaning.specs.TypeCalls.{check_table_call}
 use Rattle.meaning.specs.Checked.{Sound}
 use Rattle.meaning.proofs.Ladders.{accepted_sound}
-use Rattle.checked_limits.specs.Limits.{limit_answer, node_limit, record_limit, limits_of}
+use Rattle.checked_limits.specs.Limits.{limit_answer, limits_of}
 use Rattle.checked_rungs.proofs.Asked.{handed_stop, handed_asked, no_record, reached, last_node, true_node}
 use Rattle.checked_rungs.proofs.named.Lts as lts
 use Rattle.checked_rungs.proofs.named.Tie as tie

@@ -1,5 +1,4 @@
 -- `checked_rungs::result` meets its contract: with no record there is no fifth rung to ask. Assumes nothing.
-use borrow.Author.Rules.{rules}
 use mathlib.Core.Path.{sym, ◌∙◌}
 use mathlib.Core.List.{[], ◌∷◌}
 use Rattle.meaning.specs.Tables.{table}

@@ -1,16 +1,15 @@
 -- `checked_rungs::stream` meets its contract: the node first, then the stream's length and the position. Assumes nothing.
-use borrow.Author.Rules.{rules}
 use native.Mathlib.Nat.{add-zero}
 use Prim.Native.Nat.{◌+◌, ◌*◌}
 use mathlib.Core.Path.{◌≡◌, sym, ◌∙◌, ap}
-use mathlib.Core.Bool.{Bool, ◌||◌}
+use mathlib.Core.Bool.{Bool}
 use mathlib.Core.List.{[], ◌∷◌}
 use lib.Dec.{ltb}
 use lib.ListN.{length}
 use borrow.Author.Tests.{lt-ltb, le-ltb}
 use Rattle.answers.specs.Verdicts.{done_of}
 use Rattle.meaning.specs.Tables.{Table, table}
-use Rattle.meaning.specs.Ladder.{accepted, refused, ladder, named, Stream, stream_of}
+use Rattle.meaning.specs.Ladder.{accepted, ladder, named, Stream, stream_of}
 use Rattle.meaning.proofs.Tests.{or_inl, or_inr, or_none}
 use Rattle.checked_rungs.proofs.Asked.{stream_stop, stream_past, stream_pass}
 use Rattle.checked_rungs.proofs.stream.Lts as lts

@@ -1,5 +1,4 @@
 -- `checked_rungs::two` meets its contract: the table first, then both records; the least number decides. Assumes nothing.
-use borrow.Author.Rules.{rules}
 use Prim.Native.Nat.{ℕ, min}
 use mathlib.Core.Path.{◌≡◌, sym, ap, ap₂, ◌∙◌}
 use mathlib.Core.List.{List, [], ◌∷◌}
@@ -9,7 +8,7 @@ use Rattle.meaning.specs.Ladder.{accepted, Record, record_of}
 use Rattle.meaning.specs.TypeCalls.{check_table_call}
 use Rattle.meaning.specs.Checked.{Sound}
 use Rattle.meaning.proofs.Ladders.{accepted_sound}
-use Rattle.checked_limits.specs.Limits.{limit_answer, node_limit, record_limit, limits_of}
+use Rattle.checked_limits.specs.Limits.{limit_answer, limits_of}
 use Rattle.checked_rungs.proofs.Asked.{handed_stop, handed_asked, reached, last_record, true_record}
 use Rattle.checked_rungs.proofs.two.Lts as lts
 use Rattle.checked_rungs.proofs.two.Tie as tie

@@ -1,11 +1,10 @@
 -- `checked_table::sound` meets its contract: the count, the columns and the groups are tested one by one, then the nodes. Assumes nothing.
 use native.Mathlib.Omega.{arith}
-use borrow.Author.Rules.{rules}
-use Prim.Native.Nat.{ℕ, ◌/◌}
+use Prim.Native.Nat.{◌/◌}
 use lib.ListN.{length}
 use mathlib.Core.Path.{◌≡◌, sym, ◌∙◌, ap}
 use Rattle.meaning.specs.Groups.{group_size}
-use Rattle.meaning.specs.Tables.{Table, table, first_bad}
+use Rattle.meaning.specs.Tables.{Table, table}
 use Rattle.meaning.specs.Ladder.{refused}
 use Rattle.meaning.proofs.Groups.{length_fact}
 use Rattle.meaning.proofs.Ladders.{Shape}

@@ -3,7 +3,6 @@ use mathlib.Core.List.{◌++◌}
 use Prim.Native.Nat.{◌-◌, ◌≤◌}
 use native.Mathlib.Omega.{arith}
 use lib.ListN.{length, take, drop, length-drop}
-use borrow.Author.Rules.{rules}
 use Rattle.meaning.specs.Bits.{bits_of}
 use Rattle.bits.proofs.OfBytes.{are_bytes, length_bits_of}
 use Rattle.bits.proofs.Packed.{finished}

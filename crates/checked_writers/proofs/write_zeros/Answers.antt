@@ -1,7 +1,6 @@
 -- `checked_writers::write_zeros` meets its contract. Assumes nothing.
 use mathlib.Core.Bool.{false}
 use lib.ListN.{length-replicate}
-use borrow.Author.Rules.{rules}
 use Rattle.meaning.specs.Bits.{zeros}
 use Rattle.bits.proofs.OfBytes.{are_bytes}
 use Rattle.bits.proofs.Packed.{finished}

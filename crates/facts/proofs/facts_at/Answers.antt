@@ -3,7 +3,6 @@ use Prim.Native.Nat.{ℕ, ◌<◌}
 use mathlib.Core.Path.{ap}
 use native.Mathlib.Omega.{arith}
 use lib.ListN.{get_or}
-use borrow.Author.Rules.{rules}
 use Rattle.meaning.specs.Tables.{Columns, columns}
 use Rattle.facts_classes.proofs.Linking.{slot_below}
 use Rattle.facts.proofs.Finding.{ready_right, head_within, unit_derived, left_reach, right_reach, left_facts, right_facts, classing, node_derived}

@@ -1,8 +1,7 @@
 -- `facts_sides::least_by` meets its contract: a sum adds one to the smaller side, a product adds the sides. Assumes nothing.
 use Prim.Native.Nat.{ℕ, min}
-use mathlib.Core.Path.{◌≡◌, ap, sym, ◌∙◌}
+use mathlib.Core.Path.{ap, sym, ◌∙◌}
 use lib.Dec.{eqb}
-use borrow.Author.Rules.{rules}
 use borrow.Author.Tests.{eq-eqb, ne_eqb}
 use Rattle.meaning.specs.Types.{stop}
 use Rattle.meaning.proofs.Tests.{cond_true, cond_false}

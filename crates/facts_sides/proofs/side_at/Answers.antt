@@ -1,6 +1,5 @@
 -- `facts_sides::side_at` meets its contract: where the facts of a node are right, its group has those of its tree. Assumes nothing.
 use mathlib.Core.Path.{◌∙◌}
-use borrow.Author.Rules.{rules}
 use Rattle.meaning.specs.Tables.{facts_in}
 use Rattle.meaning.proofs.GroupLaws.{right_holds}
 use Rattle.facts_sides.proofs.side_at.Goals as goal

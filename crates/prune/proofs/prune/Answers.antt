@@ -1,7 +1,5 @@
 -- `prune::prune` meets its contract: rungs 1 to 5 by `checked_rungs`, 7 by the walk that judges, 9 by the width; then the walk that writes, and
 -- the rest of the last byte. Assumes nothing.
-use borrow.Author.Rules.{rules}
-use borrow.Author.Tests.{not-true, not-false}
 use native.Mathlib.Omega.{arith}
 use Prim.Native.Nat.{ℕ, ◌/◌, ◌≤◌}
 use mathlib.Core.Path.{◌≡◌, refl, ap, ap₂, sym, ◌∙◌}

@@ -1,5 +1,4 @@
 -- `replay_outputs::outputs_agree` meets its contract: a call leaves the output as long as it was. Assumes nothing.
-use borrow.Author.Rules.{rules}
 use native.Mathlib.Omega.{arith}
 use Rattle.replay_outputs.proofs.outputs_agree.Goals as goal
 

@@ -2,7 +2,6 @@
 use Prim.Native.Nat.{◌^◌}
 use mathlib.Core.Path.{◌≡◌, ◌∙◌}
 use native.Mathlib.Omega.{arith}
-use borrow.Author.Rules.{rules}
 use Rattle.meaning.proofs.Powers.{pow_twelve}
 use Rattle.meaning.proofs.WordWidths.{word-widths}
 use Rattle.meaning.proofs.Buffers.{bits_buffer}

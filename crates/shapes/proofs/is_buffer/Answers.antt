@@ -1,12 +1,10 @@
 -- `shapes::is_buffer` meets its contract. The loop's invariant: the question at this node is the one that was asked. Assumes nothing.
-use Prim.Native.Nat.{ℕ, ◌-◌, ◌≤◌, ◌<◌}
+use Prim.Native.Nat.{ℕ, ◌-◌}
 use mathlib.Core.Path.{◌≡◌, refl, sym, ap, ◌∙◌}
 use mathlib.Core.Bool.{Bool, ◌&&◌}
 use native.Mathlib.Omega.{arith}
-use borrow.Author.Rules.{rules}
-use borrow.Author.Tests.{not-true, not-false}
 use Rattle.meaning.specs.Types.{same}
-use Rattle.meaning.specs.Tables.{Table, table, columns, ty_at}
+use Rattle.meaning.specs.Tables.{Table, table, ty_at}
 use Rattle.meaning.specs.Words.{buffer}
 use Rattle.shapes.proofs.Shapes.{read_buffer, read_no_buffer}
 use Rattle.shapes.proofs.is_buffer.Lts as lts

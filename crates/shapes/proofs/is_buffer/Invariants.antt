@@ -1,14 +1,9 @@
 -- `shapes::is_buffer` meets its contract. The loop's invariant: the question at this node is the one that was asked. Assumes nothing.
-use Prim.Native.Nat.{ℕ, ◌-◌, ◌≤◌, ◌<◌}
-use mathlib.Core.Path.{◌≡◌, refl, sym, ap, ◌∙◌}
-use mathlib.Core.Bool.{Bool, ◌&&◌}
-use native.Mathlib.Omega.{arith}
-use borrow.Author.Rules.{rules}
-use borrow.Author.Tests.{not-true, not-false}
+use Prim.Native.Nat.{◌≤◌, ◌<◌}
+use mathlib.Core.Path.{◌≡◌}
 use Rattle.meaning.specs.Types.{same}
-use Rattle.meaning.specs.Tables.{Table, table, columns, ty_at}
+use Rattle.meaning.specs.Tables.{columns, ty_at}
 use Rattle.meaning.specs.Words.{buffer}
-use Rattle.shapes.proofs.Shapes.{read_buffer, read_no_buffer}
 use Rattle.shapes.proofs.is_buffer.Given as goal
 
 abbrev pub invariant-loop-below : goal.invariant-loop-below

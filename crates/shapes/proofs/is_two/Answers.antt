@@ -1,7 +1,6 @@
 -- `shapes::is_two` meets its contract: a sum whose sides are both of kind 0. Assumes nothing.
 use mathlib.Core.Path.{sym, ap, ap₂, ◌∙◌}
 use mathlib.Core.Bool.{Bool, ◌&&◌}
-use borrow.Author.Rules.{rules}
 use borrow.Author.Tests.{eq-eqb, ne_eqb}
 use Rattle.meaning.specs.Types.{unit, same}
 use Rattle.meaning.specs.Tables.{Table, table, ty_at}

@@ -1,9 +1,8 @@
 -- `shapes::is_word` meets its contract. The loop's invariant: the question at this node is the one that was asked. Assumes nothing.
-use Prim.Native.Nat.{ℕ, ◌<◌}
+use Prim.Native.Nat.{ℕ}
 use mathlib.Core.Path.{◌≡◌, refl, sym, ap, ◌∙◌}
 use native.Mathlib.Omega.{arith}
-use borrow.Author.Rules.{rules}
-use Rattle.meaning.specs.Tables.{Table, table, columns, ty_at}
+use Rattle.meaning.specs.Tables.{Table, table, ty_at}
 use Rattle.meaning.specs.Words.{is_word, two}
 use Rattle.meaning.proofs.Trees.{tree_class, class_trees}
 use Rattle.meaning.proofs.Types.{same_comm}

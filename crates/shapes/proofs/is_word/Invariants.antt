@@ -1,13 +1,8 @@
 -- `shapes::is_word` meets its contract. The loop's invariant: the question at this node is the one that was asked. Assumes nothing.
-use Prim.Native.Nat.{ℕ, ◌<◌}
-use mathlib.Core.Path.{◌≡◌, refl, sym, ap, ◌∙◌}
-use native.Mathlib.Omega.{arith}
-use borrow.Author.Rules.{rules}
-use Rattle.meaning.specs.Tables.{Table, table, columns, ty_at}
-use Rattle.meaning.specs.Words.{is_word, two}
-use Rattle.meaning.proofs.Trees.{tree_class, class_trees}
-use Rattle.meaning.proofs.Types.{same_comm}
-use Rattle.shapes.proofs.Shapes.{read_no_word, read_square, read_uneven}
+use Prim.Native.Nat.{◌<◌}
+use mathlib.Core.Path.{◌≡◌}
+use Rattle.meaning.specs.Tables.{columns, ty_at}
+use Rattle.meaning.specs.Words.{is_word}
 use Rattle.shapes.proofs.is_word.Given as goal
 
 abbrev pub invariant-loop-below : goal.invariant-loop-below

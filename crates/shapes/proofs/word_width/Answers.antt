@@ -1,6 +1,5 @@
 -- `shapes::word_width` meets its contract: the array holds the list's own numbers. Assumes nothing.
 use mathlib.Core.Path.{refl}
-use borrow.Author.Rules.{rules}
 use Rattle.meaning.specs.Words.{word_widths}
 use Rattle.shapes.proofs.word_width.Goals as goal
 

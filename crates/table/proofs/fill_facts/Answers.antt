@@ -1,5 +1,4 @@
 -- `table::fill_facts` meets its contract: what is judged to be right is filled in, and a refusal has written nothing. Assumes nothing.
-use borrow.Author.Rules.{rules}
 use Prim.Native.Nat.{ℕ}
 use mathlib.Core.Path.{◌≡◌, sym, ◌∙◌, ap}
 use mathlib.Core.List.{List}

@@ -1,6 +1,5 @@
 -- `table::read_table` meets its contract: what is judged to be right is read, its nodes first and then their facts, and a refusal has
 -- written nothing. Assumes nothing.
-use borrow.Author.Rules.{rules}
 use Prim.Native.Nat.{ℕ}
 use mathlib.Core.Path.{◌≡◌, sym, ◌∙◌, ap}
 use mathlib.Core.List.{List}

@@ -1,11 +1,8 @@
 -- `table_filling::may_fill` meets its contract: the count and the columns, then the entries, then the room. Assumes nothing.
-use borrow.Author.Rules.{rules}
-use borrow.Author.Tests.{not-true, not-false}
 use mathlib.Core.Path.{◌≡◌, sym, ◌∙◌}
 use mathlib.Core.Bool.{true}
 use mathlib.Core.List.{List}
 use Prim.Native.Nat.{ℕ}
-use native.Mathlib.Omega.{arith}
 use Rattle.meaning.specs.Tables.{Columns, columns, columns_reach}
 use Rattle.table_room.proofs.Room.{columns_reached}
 use Rattle.table_filling.proofs.Fillings.{too_few, too_many, short_column, faulty_entry, short_groups, all_right}

@@ -1,8 +1,6 @@
 -- `table_reading::may_read` meets its contract: the file first, then the room in the columns and the groups. Assumes nothing.
-use borrow.Author.Rules.{rules}
-use borrow.Author.Tests.{not-true, not-false}
 use Prim.Native.Nat.{ℕ}
-use mathlib.Core.Path.{◌≡◌, sym, ◌∙◌, ap}
+use mathlib.Core.Path.{sym, ◌∙◌, ap}
 use mathlib.Core.List.{List}
 use Rattle.meaning.specs.Tables.{Columns, columns}
 use Rattle.files.specs.Readings.{judged_of}

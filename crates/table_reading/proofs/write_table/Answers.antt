@@ -1,5 +1,4 @@
 -- `table_reading::write_table` meets its contract: the nodes first, and then the facts of what was written. Assumes nothing.
-use borrow.Author.Rules.{rules}
 use Prim.Native.Nat.{ℕ}
 use mathlib.Core.List.{List}
 use Rattle.meaning.specs.Tables.{Columns, columns}

@@ -1,6 +1,5 @@
 -- `types::as_sum` meets its contract: a sum is a node of kind 1. Assumes nothing.
-use borrow.Author.Rules.{rules}
-use mathlib.Core.Path.{◌≡◌, sym, ◌∙◌, ap}
+use mathlib.Core.Path.{sym, ◌∙◌, ap}
 use Rattle.meaning.specs.Types.{is_sum}
 use Rattle.meaning.specs.Tables.{Table, table}
 use Rattle.meaning.specs.Ladder.{type_at, shaped}

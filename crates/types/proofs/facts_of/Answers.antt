@@ -1,5 +1,4 @@
 -- `types::facts_of` meets its contract: past the table and the node, the facts are read. Assumes nothing.
-use borrow.Author.Rules.{rules}
 use mathlib.Core.Path.{◌≡◌, sym, ◌∙◌, ap}
 use mathlib.Core.List.{[], ◌∷◌}
 use Rattle.meaning.specs.Tables.{Table, table, facts_at}

@@ -1,6 +1,5 @@
 -- `types::is_empty` meets its contract: the width is among the facts. Assumes nothing.
-use borrow.Author.Rules.{rules}
-use mathlib.Core.Path.{◌≡◌, sym, ◌∙◌, ap}
+use mathlib.Core.Path.{sym, ◌∙◌, ap}
 use mathlib.Core.List.{[]}
 use lib.Dec.{eqb}
 use Rattle.meaning.specs.Types.{width}

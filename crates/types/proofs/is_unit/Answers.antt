@@ -1,6 +1,5 @@
 -- `types::is_unit` meets its contract: a unit is a node of kind 0. Assumes nothing.
-use borrow.Author.Rules.{rules}
-use mathlib.Core.Path.{◌≡◌, sym, ◌∙◌, ap}
+use mathlib.Core.Path.{sym, ◌∙◌, ap}
 use mathlib.Core.List.{[]}
 use Rattle.meaning.specs.Types.{is_unit}
 use Rattle.meaning.specs.Tables.{Table, table}

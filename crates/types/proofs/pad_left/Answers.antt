@@ -1,8 +1,7 @@
 -- `types::pad_left` meets its contract: the widths are among the facts. Assumes nothing.
-use borrow.Author.Rules.{rules}
 use Prim.Native.Nat.{ℕ, ◌+◌, ◌*◌, ◌-◌, ◌<◌, ◌≤◌, max}
 use mathlib.Core.Path.{◌≡◌, sym, ◌∙◌, ap}
-use mathlib.Core.List.{List, [], ◌∷◌}
+use mathlib.Core.List.{[], ◌∷◌}
 use lib.ListN.{length}
 use Rattle.meaning.specs.Groups.{group_size}
 use Rattle.meaning.specs.Types.{width}

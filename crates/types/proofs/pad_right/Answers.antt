@@ -1,5 +1,4 @@
 -- `types::pad_right` meets its contract: the padding of right records is that of left ones, the other way round. Assumes nothing.
-use borrow.Author.Rules.{rules}
 use mathlib.Core.Path.{◌∙◌}
 use Rattle.meaning.specs.Tables.{Table, table}
 use Rattle.types.proofs.Types.{padding_swapped}

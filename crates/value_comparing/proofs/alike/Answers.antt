@@ -2,7 +2,6 @@
 use mathlib.Core.Path.{◌≡◌, sym, ap, ap₂, ◌∙◌}
 use mathlib.Core.Bool.{Bool, ◌&&◌}
 use native.Mathlib.Omega.{arith}
-use borrow.Author.Rules.{rules}
 use Rattle.meaning.specs.Types.{bits}
 use Rattle.meaning.specs.Tables.{Table, table}
 use Rattle.meaning.specs.Records.{same_bits}

@@ -1,7 +1,6 @@
 -- `value_fitting::optional` meets its contract: kinds tell what the node and its left side are. Assumes nothing.
 use mathlib.Core.Path.{sym, ap, ◌∙◌}
 use mathlib.Core.Bool.{Bool, ◌&&◌}
-use borrow.Author.Rules.{rules}
 use Rattle.meaning.specs.Types.{Ty, is_sum, is_unit, left_side}
 use Rattle.meaning.specs.Tables.{Table, table}
 use Rattle.meaning.specs.Ladder.{type_at}

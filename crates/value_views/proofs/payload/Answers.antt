@@ -4,7 +4,6 @@ use mathlib.Core.Path.{◌≡◌, refl, sym, ap, ap₂, ◌∙◌}
 use mathlib.Core.Bool.{Bool, true, ◌&&◌}
 use Prim.Native.Nat.{◌+◌, ◌-◌, ◌≤◌, max}
 use native.Mathlib.Omega.{arith}
-use borrow.Author.Rules.{rules}
 use Rattle.meaning.specs.Types.{sum, bits, top, is_sum}
 use Rattle.meaning.specs.Tables.{Table, table}
 use Rattle.meaning.specs.Records.{tag}

@@ -1,7 +1,6 @@
 -- `word_types::as_word` meets its contract: a word type has an n below 32. Assumes nothing.
-use borrow.Author.Rules.{rules}
 use mathlib.Core.Path.{◌≡◌, sym, ◌∙◌, ap}
-use mathlib.Core.List.{List, [], ◌∷◌}
+use mathlib.Core.List.{[], ◌∷◌}
 use lib.Dec.{ltb}
 use Rattle.meaning.specs.Tables.{Table, table}
 use Rattle.meaning.specs.Words.{as_word}

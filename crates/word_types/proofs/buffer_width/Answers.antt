@@ -1,5 +1,4 @@
 -- `word_types::buffer_width` meets its contract. Assumes nothing.
-use borrow.Author.Rules.{rules}
 use Rattle.word_types.proofs.Shaped.{no_buffer_width, buffer_width_told}
 use Rattle.word_types.proofs.buffer_width.Goals as goal
 

@@ -1,7 +1,6 @@
 -- `word_types::is_buffer8` meets its contract: the range of n is tested after the node. Assumes nothing.
-use borrow.Author.Rules.{rules}
 use mathlib.Core.Path.{◌≡◌, sym, ◌∙◌, ap}
-use mathlib.Core.List.{List, [], ◌∷◌}
+use mathlib.Core.List.{[], ◌∷◌}
 use lib.Dec.{ltb}
 use Rattle.meaning.specs.Types.{same}
 use Rattle.meaning.specs.Tables.{Table, table}

@@ -1,7 +1,6 @@
 -- `word_types::is_ctx8` meets its contract: the tree is compared. Assumes nothing.
-use borrow.Author.Rules.{rules}
 use mathlib.Core.Path.{◌≡◌, sym, ◌∙◌, ap}
-use mathlib.Core.List.{List, [], ◌∷◌}
+use mathlib.Core.List.{[], ◌∷◌}
 use Rattle.meaning.specs.Types.{same}
 use Rattle.meaning.specs.Tables.{Table, table}
 use Rattle.meaning.specs.Words.{ctx8}

@@ -1,5 +1,4 @@
 -- `word_types::word_width` meets its contract. Assumes nothing.
-use borrow.Author.Rules.{rules}
 use Rattle.word_types.proofs.Shaped.{no_word_width, word_width_told}
 use Rattle.word_types.proofs.word_width.Goals as goal
 

@@ -5,8 +5,7 @@ use mathlib.Core.Bool.{Bool, true, false, cond, ◌&&◌}
 use native.Mathlib.Numerals.{add-one}
 use native.Mathlib.Omega.{arith}
 use lib.Dec.{ltb}
-use borrow.Author.Rules.{rules}
-use borrow.Author.Tests.{lt-ltb, le-ltb, not-true, not-false}
+use borrow.Author.Tests.{lt-ltb, le-ltb}
 use Rattle.meaning.specs.Types.{Ty, bits}
 use Rattle.meaning.specs.Tables.{Table, table}
 use Rattle.meaning.specs.Words.{word, is_word, as_word, joins}

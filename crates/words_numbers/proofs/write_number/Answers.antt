@@ -1,5 +1,4 @@
 -- `words_numbers::write_number` meets its contract: the bits are put at bit 0, and the last byte is finished. Assumes nothing.
-use borrow.Author.Rules.{rules}
 use Rattle.meaning.specs.Bits.{to_bits}
 use Rattle.bits.proofs.Numbers.{length_to_bits}
 use Rattle.bits.proofs.OfBytes.{are_bytes}

@@ -7,7 +7,6 @@ use mathlib.Core.List.{List}
 use native.Mathlib.Omega.{arith}
 use lib.ListN.{length, take, drop, length-drop}
 use lib.Seq.{paste, paste-zero}
-use borrow.Author.Rules.{rules}
 use Rattle.meaning.specs.Types.{bits}
 use Rattle.meaning.specs.Bits.{bits_of}
 use Rattle.meaning.specs.Words.{segment_bits, buffer, buffer_bits}

@@ -1,20 +1,13 @@
 -- `words_segments::write_buffer` meets its contract. The loop's invariant: i segments are written, and what follows in the buffer are the
 -- segments below them, holding the data that is left. Assumes nothing.
-use Prim.Native.Nat.{ℕ, suc, ◌+◌, ◌-◌, ◌*◌, ◌^◌, ◌≤◌, ◌<◌}
-use mathlib.Core.Path.{◌≡◌, refl, sym, ap, ap₂, ◌∙◌}
-use mathlib.Core.Bool.{Bool}
-use mathlib.Core.List.{List}
-use native.Mathlib.Omega.{arith}
-use lib.ListN.{length, take, drop, length-drop}
-use lib.Seq.{paste, paste-zero}
-use borrow.Author.Rules.{rules}
+use Prim.Native.Nat.{◌+◌, ◌-◌, ◌≤◌}
+use mathlib.Core.Path.{◌≡◌}
+use lib.ListN.{length, drop}
+use lib.Seq.{paste}
 use Rattle.meaning.specs.Types.{bits}
 use Rattle.meaning.specs.Bits.{bits_of}
-use Rattle.meaning.specs.Words.{segment_bits, buffer, buffer_bits}
-use Rattle.meaning.proofs.WordWidths.{word-widths}
-use Rattle.bits.proofs.OfBytes.{tail}
-use Rattle.words_laws.specs.Segments.{held_by}
-use Rattle.words_laws.proofs.Parts.{segments, held_most, buffer_small, parts_begin, part_room, part_next, part_paste, parts_end}
+use Rattle.meaning.specs.Words.{buffer, buffer_bits}
+use Rattle.words_laws.proofs.Parts.{segments}
 use Rattle.words_segments.proofs.write_buffer.Given as goal
 
 abbrev pub invariant-loop-i : goal.invariant-loop-i

@@ -7,7 +7,6 @@ use native.Mathlib.Omega.{arith}
 use lib.Dec.{eqb}
 use lib.ListN.{length}
 use lib.Seq.{paste}
-use borrow.Author.Rules.{rules}
 use borrow.Author.Tests.{eq-eqb, ne_eqb}
 use Rattle.meaning.specs.Bits.{odd, bits_of, zeros}
 use Rattle.meaning.proofs.Powers.{pow_twelve}
@@ -59,10 +58,13 @@ returns-then-held-size-eq1 c =
     let a = c.args in
     let size = c.word_width-size.result in
     let e = size_is c.before.before.before.before.before.before.before.before.before.before in
-    let o = bit_set (length a.held.now) size a.k e c.if-held-size-eq1.true in record { value = e ∙ ap (λ (b : Bool). cond b (2 ^ a.k) 0) (sym o); out_after = c.copy_bits.ensures
+    let o = bit_set (length a.held.now) size a.k e c.if-held-size-eq1.true in record {
+      value = e ∙ ap (λ (b : Bool). cond b (2 ^ a.k) 0) (sym o);
+      out_after = c.copy_bits.ensures
           ∙ ap₂ (λ (v : List Bool) (z : ℕ). paste v (a.at + 1) (bits_of a.held.now) (8 * z)) c.put_bit.ensures e
           ∙ paste_tagged (bits_of a.out.now) a.at true (bits_of a.held.now) (8 * 2 ^ a.k) (omega (arith, length_bits_of a.out.now))
-          ∙ ap (λ (v : List Bool). paste (bits_of a.out.now) a.at v (1 + 8 * 2 ^ a.k)) (sym (present_bits a.k a.held.now o)) }
+          ∙ ap (λ (v : List Bool). paste (bits_of a.out.now) a.at v (1 + 8 * 2 ^ a.k)) (sym (present_bits a.k a.held.now o));
+    }
 
 pub clear_bits-requires : goal.clear_bits-requires
 clear_bits-requires c =
@@ -74,6 +76,9 @@ returns c =
     let a = c.args in
     let size = c.word_width-size.result in
     let e = size_is c.before.before.before.before.before.before in
-    let o = bit_clear (length a.held.now) size a.k e c.if-held-size-eq1.false in record { value = ap (λ (b : Bool). cond b (2 ^ a.k) 0) (sym o); out_after = c.clear_bits.ensures
+    let o = bit_clear (length a.held.now) size a.k e c.if-held-size-eq1.false in record {
+      value = ap (λ (b : Bool). cond b (2 ^ a.k) 0) (sym o);
+      out_after = c.clear_bits.ensures
           ∙ ap (λ (z : ℕ). paste (bits_of a.out.now) a.at (zeros (1 + 8 * z)) (1 + 8 * z)) e
-          ∙ ap (λ (v : List Bool). paste (bits_of a.out.now) a.at v (1 + 8 * 2 ^ a.k)) (sym (absent_bits a.k a.held.now o)) }
+          ∙ ap (λ (v : List Bool). paste (bits_of a.out.now) a.at v (1 + 8 * 2 ^ a.k)) (sym (absent_bits a.k a.held.now o));
+    }

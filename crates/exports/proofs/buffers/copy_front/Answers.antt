@@ -1,7 +1,6 @@
 -- `exports::buffers::copy_front` meets its contract. The invariant of its loop: the first i bytes stand at the front. Assumes nothing.
-use borrow.Author.Rules.{rules}
 use native.Mathlib.Omega.{arith}
-use Prim.Native.Nat.{◌-◌, ◌≤◌}
+use Prim.Native.Nat.{◌-◌}
 use mathlib.Core.Path.{◌≡◌, refl, ap, ◌∙◌}
 use lib.ListN.{length, get_or, length-set}
 use Rattle.exports_answers.proofs.Fronts.{front, front_more, front_all}

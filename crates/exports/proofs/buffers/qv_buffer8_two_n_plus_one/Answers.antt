@@ -1,5 +1,4 @@
 -- `exports::buffers::qv_buffer8_two_n_plus_one` meets its contract: what crosses is what the call says, and its place is near. Assumes nothing.
-use borrow.Author.Rules.{rules}
 use Rattle.exports.proofs.Nears.{buffer_near}
 use Rattle.exports_answers.proofs.Crossing.{crossing}
 use Rattle.exports.proofs.buffers.qv_buffer8_two_n_plus_one.Goals as goal

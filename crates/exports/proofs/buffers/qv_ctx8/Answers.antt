@@ -1,10 +1,8 @@
 -- `exports::buffers::qv_ctx8` meets its contract: `ctx8` answers for the struct as for the slices. Assumes nothing.
-use borrow.Author.Rules.{rules}
-use Prim.Native.Nat.{ℕ}
 use mathlib.Core.Path.{◌≡◌, ◌∙◌}
 use Rattle.answers.specs.Verdicts.{count_of}
 use Rattle.meaning.specs.Tables.{Table, table}
-use Rattle.exports.specs.Handed.{ctx8_handed, ctx8_handed_out}
+use Rattle.exports.specs.Handed.{ctx8_handed}
 use Rattle.exports.proofs.Nears.{ctx8_near}
 use Rattle.exports_answers.proofs.Crossing.{crossing}
 use Rattle.exports.proofs.States.{handed_call, handed_out}
@@ -46,6 +44,10 @@ tell_count-requires c =
 pub returns : goal.returns
 returns c =
     let d = c.before.before.before.before.before in
-    let a = (start d).args in record { value = search (crossing, called d); width_after = search (crossing, called d); out_after = c.ctx8.ensures.out_after
-            ∙ handed_out (of (start d)) a.midstate.now a.bytes_hashed a.buffer.now c.hash_state-state.result a.res a.out.now
-            c.hash_state-state.ensures }
+    let a = (start d).args in record {
+      value = search (crossing, called d);
+      width_after = search (crossing, called d);
+      out_after = c.ctx8.ensures.out_after
+          ∙ handed_out (of (start d)) a.midstate.now a.bytes_hashed a.buffer.now c.hash_state-state.result a.res a.out.now
+          c.hash_state-state.ensures;
+    }

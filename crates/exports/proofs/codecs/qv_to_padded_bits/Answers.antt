@@ -1,5 +1,4 @@
 -- `exports::codecs::qv_to_padded_bits` meets its contract: what crosses is what the call says, and its place is near. Assumes nothing.
-use borrow.Author.Rules.{rules}
 use Rattle.exports.proofs.Nears.{to_padded_near}
 use Rattle.exports_answers.proofs.Crossing.{crossing}
 use Rattle.exports.proofs.codecs.qv_to_padded_bits.Goals as goal

@@ -1,5 +1,4 @@
 -- `exports::comparing::qv_compare` meets its contract: what crosses is what the call says, and its place is near. Assumes nothing.
-use borrow.Author.Rules.{rules}
 use Rattle.exports.proofs.Nears.{compare_near}
 use Rattle.exports_answers.proofs.Crossing.{crossing}
 use Rattle.exports.proofs.comparing.qv_compare.Goals as goal

@@ -1,5 +1,4 @@
 -- `exports::comparing::qv_equal` meets its contract: what crosses is what the call says, and its place is near. Assumes nothing.
-use borrow.Author.Rules.{rules}
 use Rattle.exports.proofs.Nears.{equal_near}
 use Rattle.exports_answers.proofs.Crossing.{crossing}
 use Rattle.exports.proofs.comparing.qv_equal.Goals as goal

@@ -1,5 +1,4 @@
 -- `exports::constructors::qv_zero` meets its contract: what crosses is what the call says, and its place is near. Assumes nothing.
-use borrow.Author.Rules.{rules}
 use Rattle.exports.proofs.Nears.{zero_near}
 use Rattle.exports_answers.proofs.Crossing.{crossing}
 use Rattle.exports.proofs.constructors.qv_zero.Goals as goal

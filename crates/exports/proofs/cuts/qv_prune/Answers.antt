@@ -1,5 +1,4 @@
 -- `exports::cuts::qv_prune` meets its contract: what crosses is what the call says, and its place is near. Assumes nothing.
-use borrow.Author.Rules.{rules}
 use Rattle.exports.proofs.Nears.{prune_near}
 use Rattle.exports_answers.proofs.Crossing.{crossing}
 use Rattle.exports.proofs.cuts.qv_prune.Goals as goal

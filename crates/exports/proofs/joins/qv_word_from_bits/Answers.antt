@@ -1,5 +1,4 @@
 -- `exports::joins::qv_word_from_bits` meets its contract: what crosses is what the call says, and its place is near. Assumes nothing.
-use borrow.Author.Rules.{rules}
 use Rattle.exports.proofs.Nears.{word_read_near}
 use Rattle.exports_answers.proofs.Crossing.{crossing}
 use Rattle.exports.proofs.joins.qv_word_from_bits.Goals as goal

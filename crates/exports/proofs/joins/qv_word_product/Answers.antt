@@ -1,5 +1,4 @@
 -- `exports::joins::qv_word_product` meets its contract: what crosses is what the call says, and its place is near. Assumes nothing.
-use borrow.Author.Rules.{rules}
 use Rattle.exports.proofs.Nears.{join_near}
 use Rattle.exports_answers.proofs.Crossing.{crossing}
 use Rattle.exports.proofs.joins.qv_word_product.Goals as goal

@@ -1,5 +1,4 @@
 -- `exports::lengths::qv_padded_len` meets its contract: what crosses is what the call says, and its place is near. Assumes nothing.
-use borrow.Author.Rules.{rules}
 use Rattle.exports.proofs.Nears.{padded_len_near}
 use Rattle.exports_answers.proofs.Crossing.{crossing}
 use Rattle.exports.proofs.lengths.qv_padded_len.Goals as goal

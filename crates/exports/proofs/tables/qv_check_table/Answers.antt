@@ -1,5 +1,4 @@
 -- `exports::tables::qv_check_table` meets its contract: what crosses is what the call says, and its place is near. Assumes nothing.
-use borrow.Author.Rules.{rules}
 use Rattle.exports.proofs.Nears.{check_table_near}
 use Rattle.exports_answers.proofs.Crossing.{crossing}
 use Rattle.exports.proofs.tables.qv_check_table.Goals as goal

@@ -1,5 +1,4 @@
 -- `exports::tables::qv_fill_facts` meets its contract: what crosses is what the call says, and its place is near. Assumes nothing.
-use borrow.Author.Rules.{rules}
 use Rattle.exports.proofs.Places.{fill_near}
 use Rattle.exports_answers.proofs.Crossing.{crossing}
 use Rattle.exports.proofs.tables.qv_fill_facts.Goals as goal

@@ -1,5 +1,4 @@
 -- `exports::type_calls::qv_type_as_sum` meets its contract: what crosses is what the call says, and its place is near. Assumes nothing.
-use borrow.Author.Rules.{rules}
 use Rattle.exports.proofs.Nears.{type_as_sum_near}
 use Rattle.exports_answers.proofs.Crossing.{crossing}
 use Rattle.exports.proofs.type_calls.qv_type_as_sum.Goals as goal

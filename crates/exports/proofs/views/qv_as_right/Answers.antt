@@ -1,5 +1,4 @@
 -- `exports::views::qv_as_right` meets its contract: what crosses is what the call says, and its place is near. Assumes nothing.
-use borrow.Author.Rules.{rules}
 use Rattle.exports.proofs.Nears.{as_right_near}
 use Rattle.exports_answers.proofs.Crossing.{crossing}
 use Rattle.exports.proofs.views.qv_as_right.Goals as goal

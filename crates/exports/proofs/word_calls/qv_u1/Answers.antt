@@ -1,5 +1,4 @@
 -- `exports::word_calls::qv_u1` meets its contract: what crosses is what the call says, and its place is near. Assumes nothing.
-use borrow.Author.Rules.{rules}
 use Rattle.exports.proofs.Nears.{number_near}
 use Rattle.exports_answers.proofs.Crossing.{crossing}
 use Rattle.exports.proofs.word_calls.qv_u1.Goals as goal

@@ -1,5 +1,4 @@
 -- `exports::word_calls::qv_u16` meets its contract: what crosses is what the call says, and its place is near. Assumes nothing.
-use borrow.Author.Rules.{rules}
 use Rattle.exports.proofs.Nears.{bytes_near}
 use Rattle.exports_answers.proofs.Crossing.{crossing}
 use Rattle.exports.proofs.word_calls.qv_u16.Goals as goal

@@ -1,5 +1,4 @@
 -- `exports::word_type_calls::qv_word_width` meets its contract: what crosses is what the call says, and its place is near. Assumes nothing.
-use borrow.Author.Rules.{rules}
 use Rattle.exports.proofs.Nears.{word_width_near}
 use Rattle.exports_answers.proofs.Crossing.{crossing}
 use Rattle.exports.proofs.word_type_calls.qv_word_width.Goals as goal

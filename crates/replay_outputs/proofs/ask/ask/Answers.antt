@@ -1,5 +1,4 @@
 -- `replay_outputs::ask::ask` meets its contract: the room of the request lies in the output. Assumes nothing.
-use borrow.Author.Rules.{rules}
 use native.Mathlib.Omega.{arith}
 use lib.ListN.{length-take}
 use Rattle.replay_outputs.proofs.ask.ask.Goals as goal

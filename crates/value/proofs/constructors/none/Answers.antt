@@ -2,8 +2,6 @@
 use mathlib.Core.Path.{◌≡◌, sym, ap, ◌∙◌}
 use mathlib.Core.Bool.{Bool}
 use mathlib.Core.List.{List, [], ◌∷◌}
-use borrow.Author.Rules.{rules}
-use borrow.Author.Tests.{not-true, not-false}
 use Rattle.meaning.specs.Tables.{Table, table}
 use Rattle.meaning.specs.Ladder.{accepted, Rung, ladder, shaped, makes, made}
 use Rattle.meaning.specs.RecordCalls.{handed, none_bits}

@@ -2,7 +2,6 @@
 use mathlib.Core.Path.{◌≡◌, sym, ap, ◌∙◌}
 use mathlib.Core.Bool.{Bool}
 use mathlib.Core.List.{List, [], ◌∷◌}
-use borrow.Author.Rules.{rules}
 use Rattle.meaning.specs.Tables.{Table, table}
 use Rattle.meaning.specs.Ladder.{accepted, Rung, ladder, Record, record_of, shaped}
 use Rattle.meaning.specs.RecordCalls.{handed, product_bits}

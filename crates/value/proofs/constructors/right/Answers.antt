@@ -1,5 +1,4 @@
 -- `value::constructors::right` meets its contract: it is `one_side` with its side. Assumes nothing.
-use borrow.Author.Rules.{rules}
 use Rattle.value.proofs.constructors.right.Goals as goal
 
 pub returns : goal.returns

@@ -1,7 +1,6 @@
 -- `value::views::as_product` meets its contract: rungs 1 to 5 by `checked_rungs`, the others by the inner function. Assumes nothing.
 use mathlib.Core.Path.{◌≡◌, sym, ap, ◌∙◌}
 use mathlib.Core.List.{List, [], ◌∷◌}
-use borrow.Author.Rules.{rules}
 use Rattle.meaning.specs.Tables.{Table, table}
 use Rattle.meaning.specs.Ladder.{accepted, Rung, ladder, Record, record_of}
 use Rattle.meaning.specs.RecordCalls.{handed}

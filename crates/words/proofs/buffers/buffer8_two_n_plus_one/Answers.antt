@@ -5,7 +5,6 @@ use mathlib.Core.List.{List, [], ◌∷◌, ◌++◌}
 use mathlib.Core.Bool.{◌&&◌}
 use lib.Dec.{ltb}
 use lib.ListN.{length}
-use borrow.Author.Rules.{rules}
 use Rattle.answers.specs.Verdicts.{done_of}
 use Rattle.meaning.specs.Tables.{Table, table}
 use Rattle.meaning.specs.Types.{same}

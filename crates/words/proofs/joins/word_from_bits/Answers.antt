@@ -2,7 +2,6 @@
 use mathlib.Core.Path.{◌≡◌, sym, ap, ◌∙◌}
 use mathlib.Core.List.{List}
 use lib.Dec.{ltb}
-use borrow.Author.Rules.{rules}
 use Rattle.answers.specs.Verdicts.{done_of}
 use Rattle.meaning.specs.Tables.{Table, table}
 use Rattle.meaning.specs.Words.{is_word}

@@ -1,7 +1,6 @@
 -- `words::joins::word_product` meets its contract: the first rungs, and what they let pass. Assumes nothing.
 use mathlib.Core.Path.{◌≡◌, sym, ap, ◌∙◌}
 use mathlib.Core.List.{List, [], ◌∷◌}
-use borrow.Author.Rules.{rules}
 use Rattle.answers.specs.Verdicts.{done_of}
 use Rattle.meaning.specs.Tables.{Table, table}
 use Rattle.meaning.specs.Words.{joins}

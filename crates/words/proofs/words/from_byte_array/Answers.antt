@@ -4,7 +4,6 @@ use mathlib.Core.Path.{ap, ◌∙◌}
 use native.Mathlib.Omega.{arith}
 use lib.Dec.{ltb}
 use lib.ListN.{length}
-use borrow.Author.Rules.{rules}
 use borrow.Author.Tests.{ltb-true}
 use Rattle.meaning.specs.Tables.{Table, table}
 use Rattle.meaning.specs.Bits.{bits_of}
@@ -42,6 +41,9 @@ returns c =
     let s = c.before.before.before.before.before.before.before.before.before.before.before.before in
     let a = c.args in
     let e = c.exponent_of-k.ensures in
-    let given = bits_of a.bytes.now in record { result_value = c.bytes_word.ensures.result_value
-          ∙ ap (λ (k : ℕ). makes (from_range (of s) a.res (ltb k 29) (is_word (3 + k) (type_at (of s) a.res))) given a.out.now) e; out_after = c.bytes_word.ensures.out_after
-          ∙ ap (λ (k : ℕ). made (from_range (of s) a.res (ltb k 29) (is_word (3 + k) (type_at (of s) a.res))) given a.out.now) e }
+    let given = bits_of a.bytes.now in record {
+      result_value = c.bytes_word.ensures.result_value
+          ∙ ap (λ (k : ℕ). makes (from_range (of s) a.res (ltb k 29) (is_word (3 + k) (type_at (of s) a.res))) given a.out.now) e;
+      out_after = c.bytes_word.ensures.out_after
+          ∙ ap (λ (k : ℕ). made (from_range (of s) a.res (ltb k 29) (is_word (3 + k) (type_at (of s) a.res))) given a.out.now) e;
+    }
