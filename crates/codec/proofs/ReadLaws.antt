@@ -1,8 +1,8 @@
 -- The laws of the two readers as a caller meets them. They speak of the equations that the calls are proved to meet, `from_compact_call` and
--- `from_padded_call` for the answer, and those with Out for the output. `Streamed` is a sound table, a node within the limits and a stream that
+-- `from_padded_call` for the answer, and those with `_out` for the output. `Streamed` is a sound table, a node within the limits and a stream that
 -- fits: 1 to 5 do not apply.
 --
---   at-zero                         the record that a call has written, at bit 0 of its output
+--   at_zero                         the record that a call has written, at bit 0 of its output
 --   CompactGot compact_got          what an accepted compact reading has read and consumed
 --   PaddedGot padded_got            the same of padded reading
 --   compact_reads padded_reads      a record that begins the stream is read, where there is room

@@ -1,6 +1,6 @@
 -- The laws of the two writers as a caller meets them, over any sound table and any record within the limits and its bytes (`Held`: 1 to 5
 -- do not apply). They speak of the equations that the calls are proved to meet, `to_compact_call` and `to_padded_call` for the answer, and those with
--- Out for the output.
+-- `_out` for the output.
 --
 --   WrittenOut                      what an accepted writer has written
 --   compact_wrote padded_wrote      an accepted writer has written the compact bits, or the record's own

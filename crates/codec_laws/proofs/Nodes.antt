@@ -2,7 +2,7 @@
 --
 --   NodeRead                  a node within the limits, and what was read of it
 --   own_width low             the width that was read is the true one; it lies below the end of the numbers
---   is_sum is-prod            the tree of a node with padding, by its kind
+--   is_sum_lem is-prod            the tree of a node with padding, by its kind
 --   side                      a side of it, by its tag
 --   Taken taken               the side of a sum that a tag took
 --   tag_inside payload_run first_run second_run     where tag, payload and parts lie in a record that lies in bytes

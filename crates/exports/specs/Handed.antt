@@ -1,9 +1,9 @@
 -- The hash state as C hands it to `ctx8`: slices of any length in the place of the struct's arrays.
 --
---   inRange                     the lengths that make a hash state
+--   in_range                    the lengths that make a hash state
 --   handed_state                midstate, count and buffered bytes, all of which are used
 --   handed_rungs                1 to 7 of `ctx8`: other lengths are 6
---   ctx8_handed ctx8_handed_out  `ctx8` of them: the answer and the output
+--   ctx8_handed ctx8_handed_out `ctx8` of them: the answer and the output
 --   Stands                      a struct that `ctx8` answers for as for the slices
 use Rattle.std.specs.Prelude.{ℕ, ◌≡◌, Bool, true, ◌&&◌, List, length, eqb, leb}
 use Rattle.meaning.specs.Types.{same}

@@ -1,6 +1,6 @@
 -- Laws of a column that nodes are written to, one after the other from its front.
 --
---   column-none column_more     no entry is written yet; one more is
+--   column_more                 one more entry is written
 --   column_length               a column keeps its length
 -- Assumes nothing.
 use Prim.Native.Nat.{ℕ, suc, ◌+◌, ◌≤◌, ◌<◌}

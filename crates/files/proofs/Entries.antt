@@ -2,7 +2,7 @@
 --
 --   entries_length              as many nodes are found as were asked for
 --   ReadUpTo                      the first n nodes are found, and the next stands at an offset
---   read_none read_more more-entries
+--   read_none read_more more_nodes
 --                               none is read yet; one more is
 --   read_fault                  the first node at fault is the fault of them all
 -- Assumes nothing.

@@ -1,6 +1,6 @@
 -- The sides of a sum and of a product that were read from a sound table, as a walk of a cut needs them.
 --
---   side_bits before_some some_bits     a sum is its tag and padding, of which there is some, and a side
+--   side_bits before_some some_bits_lem a sum is its tag and padding, of which there is some, and a side
 --   sum_bits                    a node of kind 1 has at least one bit
 --   Under under                 the side of a sum under a tag: its place, its width, its number
 --   Parts parts                 the sides of a product, one after the other

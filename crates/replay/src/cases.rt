@@ -8,7 +8,7 @@ use replay_parts::BEFORE;
 use replay_values::{tables_agree, values_agree};
 
 // A case that was replayed: whether all is as expected, and where the next case stands; past the end if the list is cut in the case.
-#[derive(Drop)]
+#[derive(Clone, Copy)]
 pub(crate) struct Replayed {
     pub(crate) agrees: bool,
     pub(crate) next: usize,

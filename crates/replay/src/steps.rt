@@ -9,7 +9,7 @@ const TABLE: u64 = 255;
 
 // What was done: a call, by its number, or the reading of a table, which counts as number 50; whether all was as expected; the count of the table
 // at hand; and where the next case stands, past the end if the list is damaged here.
-#[derive(Drop)]
+#[derive(Clone, Copy)]
 pub struct Step {
     pub call: usize,
     pub agrees: bool,

@@ -15,7 +15,7 @@ use answers::Count;
 use words_segments::write_buffer;
 
 // A hash state: thirty-two midstate bytes, a count, and up to sixty-three buffered bytes, of which so many are used.
-#[derive(Drop)]
+#[derive(Clone, Copy)]
 pub struct HashState {
     pub midstate: [u8; 32],
     pub count: u64,
