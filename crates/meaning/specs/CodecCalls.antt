@@ -4,7 +4,7 @@
 --   read_rungs write_rungs      1 to 5 of a reader, and of a writer
 --   compact_in padded_in        what a reader decodes
 --   compact_bits                what the compact writer writes
---   from_compact_call from_padded_call to_compact_call to_padded_call, and the same with Out for the output
+--   from_compact_call from_padded_call to_compact_call to_padded_call, and the same with `_out` for the output
 use Rattle.std.specs.Prelude.{ℕ, ◌+◌, Bool, List, [], ◌∷◌, ◌++◌}
 use Rattle.meaning.specs.Tables.{Table}
 use Rattle.meaning.specs.Bits.{written}

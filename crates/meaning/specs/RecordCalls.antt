@@ -8,7 +8,7 @@
 --   padded_len_call compact_len_call    lengths
 --   results                     1 to 7 of a constructor
 --   unit_rungs zero_rungs left_rungs …, zero_bits left_bits …  the rungs of each constructor, and the bits that it makes
---   unit_call zero_call left_call right_call none_call some_call product_call, and the same with Out for the output
+--   unit_call zero_call left_call right_call none_call some_call product_call, and the same with `_out` for the output
 use Prim.Native.Nat.{ℕ, ◌+◌, Ordering, compare}
 use Rattle.std.specs.Prelude.{Bool, not, ◌&&◌, List, [], ◌∷◌, ◌++◌, map, length, ltb}
 use Rattle.meaning.specs.Types.{same, bits, top, is_unit, is_sum, is_prod, left_side, right_side}

@@ -2,7 +2,7 @@
 --
 --   from_range                  1 to 7 of a call that makes a record from numbers or bytes
 --   number_rungs bytes_rungs array_rungs join_rungs word_read_rungs buffer_rungs ctx8_rungs  the rungs of each
---   number_call bytes_call array_call join_call word_read_call buffer_call ctx8_call, and the same with Out for the output
+--   number_call bytes_call array_call join_call word_read_call buffer_call ctx8_call, and the same with `_out` for the output
 use Rattle.std.specs.Prelude.{ℕ, ◌+◌, ◌-◌, ◌^◌, Bool, ◌&&◌, List, [], ◌∷◌, ◌++◌, length, eqb, ltb, leb}
 use Rattle.meaning.specs.Types.{same}
 use Rattle.meaning.specs.Tables.{Table}
