@@ -140,7 +140,7 @@ mod before {
         kinds: u8, 1;
         lefts: u16, 1;
         rights: u16, 1;
-        groups: u8, 19;
+        groups: u8, quelomavunt::raw::GROUP_BYTES;
     }
 }
 

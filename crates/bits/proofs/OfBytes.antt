@@ -3,6 +3,7 @@
 --   length_bits_of length_by_bits     eight bits a byte, so bytes with equally many bits are equally many
 --   get_d_bits_of set_bits_of         one bit, and one bit set
 --   bits_of_append take_bits_of drop_bits_of
+--   bits_of_zeros                     bytes that are all zero
 --   tail part part_lent               the bits from bit o on, in the bytes from byte o / 8 on
 --   byte_bits                         the eight bits of one byte
 --   bits_of_injective                 bytes are what their bits say
@@ -14,13 +15,13 @@ use mathlib.Core.List.{List, [], ◌∷◌, ◌++◌, append_assoc}
 use Prim.Native.Nat.{ℕ, zero, suc, ◌+◌, ◌-◌, ◌*◌, ◌/◌, ◌%◌, ◌^◌, ◌<◌, zero-le, suc-le-suc}
 use native.Mathlib.Nat.{zero-div, le_of_eq, le_of_suc-le-suc}
 use native.Mathlib.Omega.{arith}
-use lib.ListN.{length, get_or, set, take, drop, length-append, length-take, length-drop}
+use lib.ListN.{length, get_or, set, take, drop, length-append, length-take, length-drop, replicate, replicate-append-replicate}
 use lib.Seq.{set-append_left, drop-drop, drop-cons, take_all, ext_get_or, get_or-drop, get_or-take}
 use mir.Syntax.{w8}
 use mir.Val.{Fits}
-use Rattle.meaning.specs.Bits.{odd, to_bits, bits_of}
+use Rattle.meaning.specs.Bits.{odd, to_bits, bits_of, zeros}
 use Rattle.meaning.specs.Checked.{Bytes}
-use Rattle.bits.proofs.Numbers.{length_to_bits, to_bits_injective}
+use Rattle.bits.proofs.Numbers.{length_to_bits, to_bits_injective, to_bits_zero}
 
 -- Eight more, as the definitions that recurse eight times see it.
 eight_more : (k : ℕ) → 8 * suc k ≡ suc (suc (suc (suc (suc (suc (suc (suc (8 * k))))))))
@@ -83,6 +84,15 @@ pub bits_of_append : (s t : List ℕ) → bits_of (s ++ t) ≡ bits_of s ++ bits
 unfolding bits_of
 bits_of_append [] t = refl
 bits_of_append (b ∷ s) t = ap (λ (v : List Bool). to_bits 8 b ++ v) (bits_of_append s t) ∙ sym (append_assoc (to_bits 8 b) (bits_of s) (bits_of t))
+
+pub bits_of_zeros : (k : ℕ) → bits_of (replicate k 0) ≡ zeros (8 * k)
+unfolding bits_of
+bits_of_zeros zero = refl
+bits_of_zeros (suc k) =
+    let more : 8 + 8 * k ≡ 8 * suc k = omega arith in
+    ap₂ (λ (p q : List Bool). p ++ q) (to_bits_zero 8) (bits_of_zeros k)
+    ∙ replicate-append-replicate 8 (8 * k) false
+    ∙ ap zeros more
 
 pub drop_bits_of : (k : ℕ) (s : List ℕ) → drop (8 * k) (bits_of s) ≡ bits_of (drop k s)
 unfolding bits_of to_bits

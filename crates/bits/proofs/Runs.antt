@@ -4,12 +4,12 @@
 --   take_run drop_run                 the beginning of a run, and what follows it, are runs
 --   sub_run                           a run within a run
 use mathlib.Core.Path.{◌≡◌, sym, ap, ◌∙◌}
-use mathlib.Core.List.{List, [], ◌∷◌}
-use Prim.Native.Nat.{ℕ, zero, suc, ◌+◌, ◌-◌, ◌≤◌, ◌<◌}
-use native.Mathlib.Nat.{sub-zero, zero-sub, suc-sub-suc}
+use mathlib.Core.List.{List}
+use Prim.Native.Nat.{ℕ, ◌+◌, ◌-◌, ◌≤◌, ◌<◌}
 use native.Mathlib.Omega.{arith}
 use lib.ListN.{length, get_or, take, drop, length-take, length-drop}
-use lib.Seq.{take-take, drop-drop, take-nil, get_or-take, get_or-drop}
+use lib.Seq.{take-take, drop-drop, get_or-take, get_or-drop}
+use Rattle.std.proofs.lemmas.Slice.{between_is}
 
 module _ {A : Type 0} where
   pub length_run : (v : List A) (at n : ℕ) → at + n ≤ length v → length (take n (drop at v)) ≡ n
@@ -21,14 +21,8 @@ module _ {A : Type 0} where
   pub take_run : (v : List A) (at n k : ℕ) → k ≤ n → take k (take n (drop at v)) ≡ take k (drop at v)
   take_run v at n k h = take-take k n (drop at v) h
 
-  drop_take : (k n : ℕ) (v : List A) → drop k (take n v) ≡ take (n - k) (drop k v)
-  drop_take zero n v = ap (λ (j : ℕ). take j v) (sym (sub-zero n))
-  drop_take (suc k) zero v = ap (λ (j : ℕ). take j (drop (suc k) v)) (sym (zero-sub (suc k)))
-  drop_take (suc k) (suc n) [] = sym (take-nil (suc n - suc k))
-  drop_take (suc k) (suc n) (x ∷ v) = drop_take k n v ∙ ap (λ (j : ℕ). take j (drop k v)) (sym (suc-sub-suc n k))
-
   pub drop_run : (v : List A) (at n k : ℕ) → drop k (take n (drop at v)) ≡ take (n - k) (drop (at + k) v)
-  drop_run v at n k = drop_take k n (drop at v) ∙ ap (take (n - k)) (drop-drop k at v)
+  drop_run v at n k = sym (between_is (drop at v) k n) ∙ ap (take (n - k)) (drop-drop k at v)
 
   pub sub_run : (v : List A) (at n k m : ℕ) → k + m ≤ n → take m (drop k (take n (drop at v))) ≡ take m (drop (at + k) v)
   sub_run v at n k m h = ap (take m) (drop_run v at n k) ∙ take_run v (at + k) (n - k) m (omega arith)

@@ -3,6 +3,8 @@
 // copied and cleared), `bits_numbers` (numbers) and `bits_compare` (runs compared).
 // The functions of these crates rely on what a public call has checked, so they are no part of the library's interface: what is `pub` is so
 // only since a crate above calls it. Each contract speaks of the bits of the bytes alone; how many bytes there are does not change.
+// A run comes as its bytes, its first bit and its length: one struct would not serve the runs that are read and those that are written, whose bytes
+// are lent to be changed, and a copy would state its one length in both.
 #![tactic(auto)]
 
 ghost use Rattle.std.specs.Prelude.{◌≡◌, false, ◌+◌, ◌-◌, ◌*◌, ◌/◌, ◌%◌, ◌^◌, ◌<◌, ◌≤◌, ◌++◌, length, get_or, set, take, drop};
@@ -56,8 +58,21 @@ pub fn bits_at(s: &[u8], at: usize, n: usize) -> u8
     straddling(s[i], s[i + 1], skip) >> (8 - n)
 }
 
+// The byte that starts t whole bytes after bit `from`. A loop over t stays one that the compiler can do many bytes at a time.
+pub fn byte_at(s: &[u8], from: usize, t: usize) -> u8
+    requires { Run s.now from (8 * (t + 1)) }
+    ensures { to_bits 8 result ≡ take 8 (drop (8 * t) (drop from (bits_of s.now))) }
+{
+    let i = from / 8 + t;
+    let skip = from % 8;
+    if skip == 0 {
+        return s[i];
+    }
+    straddling(s[i], s[i + 1], skip)
+}
+
 // The byte that starts at bit `skip` of a and ends in b.
-pub fn straddling(a: u8, b: u8, skip: usize) -> u8
+fn straddling(a: u8, b: u8, skip: usize) -> u8
     requires { (1 ≤ skip) × (skip < 8) }
     ensures { to_bits 8 result ≡ to_bits (8 - skip) a ++ to_bits skip (b / 2 ^ (8 - skip)) }
 {
@@ -88,20 +103,10 @@ fn with_bits(old: u8, x: u8, n: usize, below: usize) -> u8
     ((((upper << n) + middle) << below) + lower) as u8
 }
 
-// Copies a run of bits to within one byte.
-pub fn copy_some(src: &[u8], from: usize, dst: &mut [u8], at: usize, n: usize)
-    requires n_bound { at % 8 + n ≤ 8 }
-    requires run { Run src.now from n }
-    requires run_2 { Run dst.old at n }
-    ensures { bits_of dst.new ≡ paste (bits_of dst.old) at (drop from (bits_of src.now)) n }
-{
-    put_some(dst, at, bits_at(src, from, n), n);
-}
-
 // The bytes that so many bits take.
 pub fn bytes_for(width: usize) -> usize
     requires { width < 2 ^ 63 }
     ensures { result ≡ room width }
 {
-    (width + 7) / 8
+    width.div_ceil(8)
 }

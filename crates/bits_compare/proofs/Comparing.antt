@@ -1,22 +1,26 @@
 -- Laws of comparing two runs.
 --
---   alike_none alike_more             runs that begin alike: from none on, by pieces
+--   alike_more                        runs that begin alike: one more piece
 --   order_alike                       runs that are alike to their end are equal in order
---   Says decided order_decided        runs that are alike as far as a piece: the order of the numbers that it makes decides
+--   equal_numbers order_told          runs that are alike as far as a piece: the order of the numbers that it makes decides
 --   same_by_order                     runs of one length are the same where their order is equal
 use mathlib.Core.Path.{◌≡◌, refl, sym, ap, ap₂, ◌∙◌, subst}
 use mathlib.Core.Bool.{Bool, true, false}
 use mathlib.Core.List.{List, [], ◌∷◌, ◌++◌}
-use Prim.Native.Nat.{ℕ, zero, suc, ◌+◌, ◌-◌, ◌*◌, ◌/◌, ◌^◌, ◌≤◌, ◌<◌, zero-le, Ordering}
+use Prim.Native.Nat.{ℕ, zero, suc, ◌+◌, ◌-◌, ◌*◌, ◌/◌, ◌^◌, ◌≤◌, ◌<◌, Ordering}
 use native.Mathlib.Nat.{mod-eq_of_lt}
 use native.Mathlib.Omega.{arith}
-use lib.Dec.{eqb}
 use lib.ListN.{length, take, drop}
 use lib.Seq.{take-add, drop-drop}
 use Rattle.meaning.specs.Bits.{odd, to_bits, bit, value}
 use Rattle.meaning.specs.Records.{same_bits, order_bit, order_bits}
 use Rattle.bits_compare.specs.Alike.{Alike}
-use Rattle.bits.specs.Runs.{order_no}
+use Rattle.answers.specs.Verdicts.{order as ordering}
+use Rattle.std.specs.declared.cmp.Ordering as answered
+use Rattle.std.specs.declared.cmp.Ordering.TheVariants.{Less, Equal, Greater}
+use Rattle.std.specs.Ordering.{is_eq, is_ne, nat_cmp, MatchOrdering}
+use Rattle.std.proofs.lemmas.Bool.{false≢true}
+use Rattle.std.proofs.lemmas.Cmp.{ranked}
 use Rattle.bits.proofs.Numbers.{length_to_bits, value_below, value_to_bits}
 
 -- ---- Runs that begin alike
@@ -26,9 +30,6 @@ two_pieces : (v : List Bool) (i k m : ℕ) → take (k + m) (drop i v) ≡ take 
 two_pieces v i k m = take-add k m (drop i v) ∙ ap (λ (r : List Bool). take k (drop i v) ++ take m r) (drop-drop k i v)
 
 module _ (v : List Bool) (i : ℕ) (w : List Bool) (j n : ℕ) where
-  pub alike_none : Alike v i w j n 0
-  alike_none = record { counted = zero-le; same = refl }
-
   pub alike_more : (k m : ℕ) → k + m ≤ n → Alike v i w j n k → take m (drop (i + k) v) ≡ take m (drop (j + k) w)
       → Alike v i w j n (k + m)
   alike_more k m h a e =
@@ -49,7 +50,7 @@ pub order_alike : {v w : List Bool} → v ≡ w → order_bits v w ≡ Ordering.
 order_alike {v} {w} e = ap (order_bits v) (sym e) ∙ order_self v
 
 -- The order of the first parts decides, unless they are equal.
-abbrev pub decided : Ordering → Ordering → Ordering
+abbrev decided : Ordering → Ordering → Ordering
 decided Ordering.lt o = Ordering.lt
 decided Ordering.eq o = o
 decided Ordering.gt o = Ordering.gt
@@ -65,7 +66,7 @@ order_append (false ∷ p) (true ∷ q) v w h = refl
 order_append (false ∷ p) (false ∷ q) v w h = order_append p q v w (omega arith)
 
 -- What an order says of two numbers.
-abbrev pub Says : Ordering → ℕ → ℕ → Type 0
+abbrev Says : Ordering → ℕ → ℕ → Type 0
 Says Ordering.lt x y = x < y
 Says Ordering.eq x y = x ≡ y
 Says Ordering.gt x y = y < x
@@ -113,7 +114,7 @@ says_one Ordering.gt Ordering.eq x y s t = absurd (omega arith)
 says_one Ordering.gt Ordering.gt x y s t = refl
 
 -- What follows the first k bits of a run of n.
-abbrev pub after : List Bool → ℕ → ℕ → ℕ → List Bool
+abbrev after : List Bool → ℕ → ℕ → ℕ → List Bool
 after v i n k = take (n - k) (drop (i + k) v)
 
 run_split : (v : List Bool) (i n k : ℕ) → k ≤ n → take n (drop i v) ≡ take k (drop i v) ++ after v i n k
@@ -128,7 +129,7 @@ order-after v w i j n k a =
     ∙ ap (λ (o : Ordering). decided o (order_bits (after v i n k) (after w j n k))) (order_self (take k (drop i v)))
 
 -- Runs of n bits whose first k are alike. The next m bits of each make x and y, and what is so of these decides: nothing yet where they are equal.
-pub order_decided : (v w : List Bool) (i j n k m x y : ℕ) (o : Ordering) → Alike v i w j n k → k + m ≤ n
+order_decided : (v w : List Bool) (i j n k m x y : ℕ) (o : Ordering) → Alike v i w j n k → k + m ≤ n
     → to_bits m x ≡ take m (drop (i + k) v)
     → to_bits m y ≡ take m (drop (j + k) w)
     → x < 2 ^ m
@@ -146,12 +147,61 @@ order_decided v w i j n k m x y o a h ex ey hx hy s =
     piece u at z e =
         run_split u (at + k) (n - k) m (omega arith) ∙ ap (λ (p : List Bool). p ++ after u (at + k) (n - k) m) (sym e)
 
-pub same_by_order : (v w : List Bool) → length v ≡ length w → eqb (order_no (order_bits v w)) 1 ≡ same_bits v w
-unfolding order_bits same_bits
-same_by_order [] [] h = refl
-same_by_order [] (c ∷ w) h = absurd (omega arith)
-same_by_order (b ∷ v) [] h = absurd (omega arith)
-same_by_order (true ∷ v) (true ∷ w) h = same_by_order v w (omega arith)
-same_by_order (true ∷ v) (false ∷ w) h = refl
-same_by_order (false ∷ v) (true ∷ w) h = refl
-same_by_order (false ∷ v) (false ∷ w) h = same_by_order v w (omega arith)
+-- What a comparison of two numbers answers.
+says_answer : (x y : ℕ) (r : answered.Ordering) → r ≡ nat_cmp x y → Says (ordering r) x y
+says_answer x y r e = go r (ranked x y r e)
+  where
+    go : (o : answered.Ordering) → MatchOrdering o (x < y) (x ≡ y) (y < x) → Says (ordering o) x y
+    go Less h = h
+    go Equal h = h
+    go Greater h = h
+
+pub equal_numbers : (x y : ℕ) (r : answered.Ordering) → r ≡ nat_cmp x y → is_ne r ≡ false → x ≡ y
+equal_numbers x y r e none = go r (ranked x y r e) none
+  where
+    go : (o : answered.Ordering) → MatchOrdering o (x < y) (x ≡ y) (y < x) → is_ne o ≡ false → x ≡ y
+    go Less h f = absurd (false≢true (sym f))
+    go Equal h f = h
+    go Greater h f = absurd (false≢true (sym f))
+
+-- Two pieces whose numbers differ decide, whatever follows.
+pub order_told : (v w : List Bool) (i j n k m x y : ℕ) (r : answered.Ordering) → Alike v i w j n k → k + m ≤ n
+    → to_bits m x ≡ take m (drop (i + k) v)
+    → to_bits m y ≡ take m (drop (j + k) w)
+    → x < 2 ^ m
+    → y < 2 ^ m
+    → r ≡ nat_cmp x y
+    → is_ne r ≡ true
+    → ordering r ≡ order_bits (take n (drop i v)) (take n (drop j w))
+order_told v w i j n k m x y r a h ex ey hx hy e differ =
+    sym (order_decided v w i j n k m x y (ordering r) a h ex ey hx hy (says_answer x y r e) ∙ last r differ _)
+  where
+    last : (o : answered.Ordering) → is_ne o ≡ true → (rest : Ordering) → decided (ordering o) rest ≡ ordering o
+    last Less f rest = refl
+    last Equal f rest = absurd (false≢true f)
+    last Greater f rest = refl
+
+is_equal : Ordering → Bool
+is_equal Ordering.lt = false
+is_equal Ordering.eq = true
+is_equal Ordering.gt = false
+
+is_equal_as : (o : answered.Ordering) → is_eq o ≡ is_equal (ordering o)
+unfolding is_equal
+is_equal_as Less = refl
+is_equal_as Equal = refl
+is_equal_as Greater = refl
+
+equal_same : (v w : List Bool) → length v ≡ length w → is_equal (order_bits v w) ≡ same_bits v w
+unfolding order_bits same_bits is_equal
+equal_same [] [] h = refl
+equal_same [] (c ∷ w) h = absurd (omega arith)
+equal_same (b ∷ v) [] h = absurd (omega arith)
+equal_same (true ∷ v) (true ∷ w) h = equal_same v w (omega arith)
+equal_same (true ∷ v) (false ∷ w) h = refl
+equal_same (false ∷ v) (true ∷ w) h = refl
+equal_same (false ∷ v) (false ∷ w) h = equal_same v w (omega arith)
+
+-- Two runs of one length are the same where their order is equal.
+pub same_by_order : (v w : List Bool) (o : answered.Ordering) → length v ≡ length w → ordering o ≡ order_bits v w → is_eq o ≡ same_bits v w
+same_by_order v w o h e = is_equal_as o ∙ ap is_equal e ∙ equal_same v w h

@@ -7,8 +7,8 @@ ghost use Rattle.std.proofs.Math.Seq.{paste};
 ghost use Rattle.meaning.specs.Bits.{bits_of, to_bits};
 ghost use Rattle.bits.specs.Runs.{Run};
 
-use bits::put_some;
 use bits_bytes::put_bytes;
+use bits_runs::write_bits;
 
 // Writes the n lowest bits of a number, the top one first.
 pub fn put_number(dst: &mut [u8], at: usize, x: u64, n: usize)
@@ -16,18 +16,11 @@ pub fn put_number(dst: &mut [u8], at: usize, x: u64, n: usize)
     requires run { Run dst.old at n }
     ensures { bits_of dst.new ≡ paste (bits_of dst.old) at (to_bits n x) n }
 {
-    let lowest = (x % 256) as u8;
-    let head = 8 - at % 8;
-    if n <= head {
-        put_some(dst, at, lowest, n);
-        return;
-    }
-    put_some(dst, at, ((x >> (n - head)) % 256) as u8, head);
-    let bytes = (n - head) / 8;
-    let done = head + 8 * bytes;
-    let rest = n - done;
-    put_bytes(dst, at / 8 + 1, x >> rest, bytes);
-    if done < n {
-        put_some(dst, at + done, lowest, rest);
-    }
+    write_bits(
+        dst,
+        at,
+        n,
+        |i, k| ((x >> (n - i - k)) % 256) as u8,
+        |i, bytes| put_bytes(bytes, x >> (n - i - 8 * bytes.len())),
+    );
 }

@@ -3,13 +3,46 @@
 // a byte.
 #![tactic(auto)]
 
-ghost use Rattle.std.specs.Prelude.{◌≡◌, ◌-◌, ◌*◌, ◌≤◌, length, drop};
+ghost use Rattle.std.specs.Prelude.{◌≡◌, ℕ, List, Bool, ◌+◌, ◌-◌, ◌*◌, ◌<◌, ◌≤◌, length, drop};
 ghost use Rattle.std.proofs.Math.Seq.{paste};
 ghost use Rattle.meaning.specs.Bits.{bits_of, zeros, room};
 ghost use Rattle.bits.specs.Runs.{Run};
+ghost use Rattle.bits_runs.specs.Given.{GivesFew, FillsWhole};
 
-use bits::{copy_some, put_some};
-use bits_bytes::{clear_bytes, copy_whole};
+use bits::{bits_at, put_some};
+use bits_bytes::copy_whole;
+
+// Writes n bits from bit `at` on: `few(i, k)` answers k of them, at most 8, as a number, and `whole(i, bytes)` fills bytes with them, from their
+// bit i on.
+pub fn write_bits<F: Fn(usize, usize) -> u8, W: Fn(usize, &mut [u8])>(
+    dst: &mut [u8],
+    at: usize,
+    n: usize,
+    few: F,
+    whole: W,
+)
+    requires run { Run dst.old at n }
+    requires few_given { (i k : ℕ) → 0 < k → k ≤ 8 → i + k ≤ n → F.pre few i k }
+    requires whole_given { (i : ℕ) (bytes : _) → 0 < i → i + 8 * length bytes.now ≤ n → W.pre whole i bytes }
+    ensures { (v : List Bool) → n ≤ length v → GivesFew (F.post few) v n → FillsWhole (W.post whole) v n → bits_of dst.new ≡ paste (bits_of dst.old) at v n }
+{
+    if n == 0 {
+        return;
+    }
+    let head = 8 - at % 8;
+    if n <= head {
+        put_some(dst, at, few(0, n), n);
+        return;
+    }
+    put_some(dst, at, few(0, head), head);
+    let first = at / 8 + 1;
+    let bytes = (n - head) / 8;
+    whole(head, &mut dst[first..first + bytes]);
+    let done = head + 8 * bytes;
+    if done < n {
+        put_some(dst, at + done, few(done, n - done), n - done);
+    }
+}
 
 // Copies a run of bits.
 pub fn copy_bits(src: &[u8], from: usize, dst: &mut [u8], at: usize, n: usize)
@@ -17,18 +50,13 @@ pub fn copy_bits(src: &[u8], from: usize, dst: &mut [u8], at: usize, n: usize)
     requires run_2 { Run dst.old at n }
     ensures { bits_of dst.new ≡ paste (bits_of dst.old) at (drop from (bits_of src.now)) n }
 {
-    let head = 8 - at % 8;
-    if n <= head {
-        copy_some(src, from, dst, at, n);
-        return;
-    }
-    copy_some(src, from, dst, at, head);
-    let bytes = (n - head) / 8;
-    copy_whole(src, from + head, dst, at / 8 + 1, bytes);
-    let done = head + 8 * bytes;
-    if done < n {
-        copy_some(src, from + done, dst, at + done, n - done);
-    }
+    write_bits(
+        dst,
+        at,
+        n,
+        |i, k| bits_at(src, from + i, k),
+        |i, bytes| copy_whole(src, from + i, bytes),
+    );
 }
 
 // Writes zero bits.
@@ -36,18 +64,7 @@ pub fn clear_bits(dst: &mut [u8], at: usize, n: usize)
     requires { Run dst.old at n }
     ensures { bits_of dst.new ≡ paste (bits_of dst.old) at (zeros n) n }
 {
-    let head = 8 - at % 8;
-    if n <= head {
-        put_some(dst, at, 0, n);
-        return;
-    }
-    put_some(dst, at, 0, head);
-    let bytes = (n - head) / 8;
-    clear_bytes(dst, at / 8 + 1, bytes);
-    let done = head + 8 * bytes;
-    if done < n {
-        put_some(dst, at + done, 0, n - done);
-    }
+    write_bits(dst, at, n, |_, _| 0, |_, bytes| bytes.fill(0));
 }
 
 // Clears what follows the first w bits in the last byte that they reach: nothing if w is a multiple of 8.

@@ -1,4 +1,5 @@
 -- The laws of what was checked.
+pub mod Handed
 pub mod Lent
 pub mod Made
 pub mod Nodes

@@ -1,8 +1,8 @@
 -- What is known of a node that was read from a sound table, by its kind, its class and the tag that names a side.
 --
 --   narrow_width                    the 64-bit width of a narrow type is its true one
---   unit_test no_sum no_prod        what it is or is not, by its kind
---   sum_tree prod_tree              its tree, by its kind
+--   unit_test no_unit no_sum no_prod        what it is or is not, by its kind
+--   unit_tree sum_tree prod_tree    its tree, by its kind
 --   padded_inner                    a node with padding is no unit
 --   own_width low                   the width that was read is the true one, and lies below the end of the numbers
 --   SideRead side_read              a side of a sum or a product, by its tag: within the limits, earlier, and as wide as was read
@@ -17,12 +17,14 @@ use Prim.Native.Nat.{ℕ, zero, suc, ◌+◌, ◌-◌, ◌≤◌, ◌<◌, max}
 use native.Mathlib.Omega.{arith}
 use lib.Dec.{eqb}
 use borrow.Author.Tests.{eqb-true, eqb-false, ne_eqb}
-use Rattle.meaning.specs.Types.{Ty, sum, prod, same, bits, width, size, padded, top, is_unit, is_sum, is_prod, left_side, right_side}
+use Rattle.meaning.specs.Types.{Ty, unit, sum, prod, same, bits, width, size, padded, top, is_unit, is_sum, is_prod, left_side, right_side}
 use Rattle.meaning.specs.Tables.{Table, node}
 use Rattle.meaning.specs.Ladder.{type_at}
 use Rattle.meaning.proofs.Types.{same_eq, eq_same, width_bits}
 use Rattle.meaning.proofs.Records.{bits_sum, bits_prod}
 use Rattle.meaning.proofs.Trees.{tree_class, class_trees}
+use Rattle.tables.specs.declared.Kind.{Kind}
+use Rattle.tables.specs.Kinds.{kind_no}
 use Rattle.nodes.specs.declared.Node.{Node}
 use Rattle.nodes.specs.Reading.{Reads, side_of}
 use Rattle.checked.specs.Passed.{Named}
@@ -35,15 +37,20 @@ narrow_width x h = omega (arith, width_bits x)
 sum_bits : (a b : Ty) → bits (sum a b) ≡ 1 + max (bits a) (bits b)
 sum_bits a b = omega (arith, bits_sum a b)
 
-kind_not_sum : (k : ℕ) (a b : Ty) → (k ≡ 1 → ⊥) → is_sum (node k a b) ≡ false
-kind_not_sum zero a b f = refl
-kind_not_sum (suc zero) a b f = absurd (f refl)
-kind_not_sum (suc (suc k)) a b f = refl
+kind_not_unit : (k : Kind) (a b : Ty) → (k ≡ Kind.Unit → ⊥) → is_unit (node (kind_no k) a b) ≡ false
+kind_not_unit Kind.Unit a b f = absurd (f refl)
+kind_not_unit Kind.Sum a b f = refl
+kind_not_unit Kind.Product a b f = refl
 
-kind_not_prod : (k : ℕ) (a b : Ty) → k ≤ 2 → (k ≡ 2 → ⊥) → is_prod (node k a b) ≡ false
-kind_not_prod zero a b h f = refl
-kind_not_prod (suc zero) a b h f = refl
-kind_not_prod (suc (suc k)) a b h f = absurd (f (omega arith))
+kind_not_sum : (k : Kind) (a b : Ty) → (k ≡ Kind.Sum → ⊥) → is_sum (node (kind_no k) a b) ≡ false
+kind_not_sum Kind.Unit a b f = refl
+kind_not_sum Kind.Sum a b f = absurd (f refl)
+kind_not_sum Kind.Product a b f = refl
+
+kind_not_prod : (k : Kind) (a b : Ty) → (k ≡ Kind.Product → ⊥) → is_prod (node (kind_no k) a b) ≡ false
+kind_not_prod Kind.Unit a b f = refl
+kind_not_prod Kind.Sum a b f = refl
+kind_not_prod Kind.Product a b f = absurd (f refl)
 
 unit_kind : (k : ℕ) (a b : Ty) → eqb k 0 ≡ is_unit (node k a b)
 unit_kind zero a b = refl
@@ -83,26 +90,32 @@ module _ (t : Table) (n : ℕ) (r : Node) (e : Reads t n r) where
   b = type_at t r.right
 
   -- The node's tree as its kind has it.
-  by_kind : (k : ℕ) → r.kind ≡ k → type_at t n ≡ node k (type_at t r.left) (type_at t r.right)
-  by_kind k h = e.tree ∙ ap (λ (j : ℕ). node j a b) h
+  by_kind : (k : Kind) → r.kind ≡ k → type_at t n ≡ node (kind_no k) (type_at t r.left) (type_at t r.right)
+  by_kind k h = e.tree ∙ ap (λ (j : Kind). node (kind_no j) a b) h
 
-  pub sum_tree : r.kind ≡ 1 → type_at t n ≡ sum (type_at t r.left) (type_at t r.right)
-  sum_tree = by_kind 1
+  pub unit_tree : r.kind ≡ Kind.Unit → type_at t n ≡ unit
+  unit_tree = by_kind Kind.Unit
 
-  pub prod_tree : r.kind ≡ 2 → type_at t n ≡ prod (type_at t r.left) (type_at t r.right)
-  prod_tree = by_kind 2
+  pub sum_tree : r.kind ≡ Kind.Sum → type_at t n ≡ sum (type_at t r.left) (type_at t r.right)
+  sum_tree = by_kind Kind.Sum
 
-  pub unit_test : eqb r.kind 0 ≡ is_unit (type_at t n)
-  unit_test = unit_kind r.kind a b ∙ ap is_unit (sym e.tree)
+  pub prod_tree : r.kind ≡ Kind.Product → type_at t n ≡ prod (type_at t r.left) (type_at t r.right)
+  prod_tree = by_kind Kind.Product
 
-  pub no_sum : (r.kind ≡ 1 → ⊥) → is_sum (type_at t n) ≡ false
+  pub no_unit : (r.kind ≡ Kind.Unit → ⊥) → is_unit (type_at t n) ≡ false
+  no_unit f = ap is_unit e.tree ∙ kind_not_unit r.kind a b f
+
+  pub unit_test : eqb (kind_no r.kind) 0 ≡ is_unit (type_at t n)
+  unit_test = unit_kind (kind_no r.kind) a b ∙ ap is_unit (sym e.tree)
+
+  pub no_sum : (r.kind ≡ Kind.Sum → ⊥) → is_sum (type_at t n) ≡ false
   no_sum f = ap is_sum e.tree ∙ kind_not_sum r.kind a b f
 
-  pub no_prod : (r.kind ≡ 2 → ⊥) → is_prod (type_at t n) ≡ false
-  no_prod f = ap is_prod e.tree ∙ kind_not_prod r.kind a b e.kind_low f
+  pub no_prod : (r.kind ≡ Kind.Product → ⊥) → is_prod (type_at t n) ≡ false
+  no_prod f = ap is_prod e.tree ∙ kind_not_prod r.kind a b f
 
-  pub padded_inner : r.padded ≡ true → 1 ≤ r.kind
-  padded_inner p = padded_kind r.kind a b (ap padded (sym e.tree) ∙ sym e.padded_is ∙ p)
+  pub padded_inner : r.padded ≡ true → 1 ≤ kind_no r.kind
+  padded_inner p = padded_kind (kind_no r.kind) a b (ap padded (sym e.tree) ∙ sym e.padded_is ∙ p)
 
   -- The node is within the limits.
   module _ (h : Named t n) where
@@ -113,21 +126,21 @@ module _ (t : Table) (n : ℕ) (r : Node) (e : Reads t n r) where
     low = omega (arith, width_bits (type_at t n), h.narrow)
 
     -- The widths of the sides as they were read are the true ones.
-    left-bits : 1 ≤ r.kind → r.left_width ≡ bits a
+    left-bits : 1 ≤ kind_no r.kind → r.left_width ≡ bits a
     left-bits k =
-        e.left_width_is ∙ narrow_width a (omega (arith, h.narrow, ap bits e.tree, (side_bits r.kind a b k).0))
+        e.left_width_is ∙ narrow_width a (omega (arith, h.narrow, ap bits e.tree, (side_bits (kind_no r.kind) a b k).0))
 
-    right-bits : 1 ≤ r.kind → r.right_width ≡ bits b
+    right-bits : 1 ≤ kind_no r.kind → r.right_width ≡ bits b
     right-bits k =
-        e.right_width_is ∙ narrow_width b (omega (arith, h.narrow, ap bits e.tree, (side_bits r.kind a b k).1))
+        e.right_width_is ∙ narrow_width b (omega (arith, h.narrow, ap bits e.tree, (side_bits (kind_no r.kind) a b k).1))
 
-    sizes : 1 ≤ r.kind → (size a ≤ 2097152) × (size b ≤ 2097152)
-    sizes k = side_size r.kind a b k (subst (λ (x : Ty). size x ≤ 2097152) e.tree h.few)
+    sizes : 1 ≤ kind_no r.kind → (size a ≤ 2097152) × (size b ≤ 2097152)
+    sizes k = side_size (kind_no r.kind) a b k (subst (λ (x : Ty). size x ≤ 2097152) e.tree h.few)
 
-    pub side_read : 1 ≤ r.kind → (g : Bool) → SideRead t n r g
+    pub side_read : 1 ≤ kind_no r.kind → (g : Bool) → SideRead t n r g
     side_read k true =
         let w = right-bits k in
-        let s = (side_bits r.kind a b k).1 in
+        let s = (side_bits (kind_no r.kind) a b k).1 in
         record {
           named =
               record {
@@ -142,7 +155,7 @@ module _ (t : Table) (n : ℕ) (r : Node) (e : Reads t n r) where
         }
     side_read k false =
         let w = left-bits k in
-        let s = (side_bits r.kind a b k).0 in
+        let s = (side_bits (kind_no r.kind) a b k).0 in
         record {
           named =
               record {
@@ -156,16 +169,20 @@ module _ (t : Table) (n : ℕ) (r : Node) (e : Reads t n r) where
           fits = omega (arith, own_width, ap bits e.tree);
         }
 
-    pub sum_total : r.kind ≡ 1 → r.width ≡ 1 + max r.left_width r.right_width
+    -- A sum and a product have sides.
+    inner : {j : Kind} → r.kind ≡ j → 1 ≤ kind_no j → 1 ≤ kind_no r.kind
+    inner k p = subst (λ (i : Kind). 1 ≤ kind_no i) (sym k) p
+
+    pub sum_total : r.kind ≡ Kind.Sum → r.width ≡ 1 + max r.left_width r.right_width
     sum_total k =
-        let l = left-bits (omega arith) in
-        let m = right-bits (omega arith) in
+        let l = left-bits (inner k (omega arith)) in
+        let m = right-bits (inner k (omega arith)) in
         omega (arith, own_width, ap bits (sum_tree k), sum_bits a b)
 
-    pub prod_total : r.kind ≡ 2 → r.width ≡ r.left_width + r.right_width
+    pub prod_total : r.kind ≡ Kind.Product → r.width ≡ r.left_width + r.right_width
     prod_total k =
-        let l = left-bits (omega arith) in
-        let m = right-bits (omega arith) in
+        let l = left-bits (inner k (omega arith)) in
+        let m = right-bits (inner k (omega arith)) in
         omega (arith, own_width, ap bits (prod_tree k), bits_prod a b)
 
 module _ (t : Table) (m n : ℕ) (a b : Node) (ea : Reads t m a) (eb : Reads t n b) where
@@ -214,6 +231,6 @@ module _ (t : Table) (n : ℕ) (r : Node) (e : Reads t n r) where
   side-node true = e.right_is
   side-node false = e.left_is
 
-  pub side-type : 1 ≤ r.kind → (g : Bool) → type_at t (side_of g r).node ≡ side_type g (type_at t n)
-  side-type k true = sym (ap right_side e.tree ∙ kind_right r.kind (type_at t r.left) (type_at t r.right) k)
-  side-type k false = sym (ap left_side e.tree ∙ kind_left r.kind (type_at t r.left) (type_at t r.right) k)
+  pub side-type : 1 ≤ kind_no r.kind → (g : Bool) → type_at t (side_of g r).node ≡ side_type g (type_at t n)
+  side-type k true = sym (ap right_side e.tree ∙ kind_right (kind_no r.kind) (type_at t r.left) (type_at t r.right) k)
+  side-type k false = sym (ap left_side e.tree ∙ kind_left (kind_no r.kind) (type_at t r.left) (type_at t r.right) k)

@@ -1,16 +1,13 @@
-// The rungs 2 to 5 of one record or one node by number, for `checked_rungs`. Inner: the count is at most 1,024, and the groups
-// reach it.
+// The rungs 2 to 5 of one record or one node, for `checked_rungs`. Inner: the table has been checked.
 #![tactic(auto)]
 
-ghost use Rattle.std.specs.Prelude.{◌≡◌, false, ◌+◌, ◌*◌, ◌<◌, ◌≤◌, min, length, get_or, ltb, leb};
-ghost use Rattle.meaning.specs.Groups.{group_size, fact_in};
+ghost use Rattle.std.specs.Prelude.{◌≡◌, ◌+◌, ◌*◌, ◌≤◌, ltb};
 ghost use Rattle.answers.specs.Verdicts.{done_of};
-ghost use Rattle.checked_limits.specs.Limits.{first_rung, limit_answer};
+ghost use Rattle.checked_limits.specs.Limits as limits;
+ghost use Rattle.checked_limits.specs.Limits.{limit_answer};
 
-use answers::Done;
-
-// None of the rungs 2 to 5 refuses: a number after theirs, and no refusal's.
-const NONE: u8 = 6;
+use answers::Refusal;
+use nodes::Checked;
 
 // The widest record type, and the largest, that a call takes.
 const WIDEST: u64 = 524288;
@@ -18,21 +15,19 @@ const WIDEST: u64 = 524288;
 const LARGEST: u64 = 2097152;
 
 // 2, 3 or 4, of a node that is named as a record type.
-pub fn node_limit(groups: &[u8], count: usize, n: usize) -> u8
-    requires count_bound { count ≤ 1024 }
-    requires count_in_bounds { group_size * count ≤ length groups.now }
-    ensures { result ≡ first_rung (leb count n) (ltb 524288 (get_or (fact_in 0 8 groups.now) n 0)) (ltb 2097152 (get_or (fact_in 8 8 groups.now) n 0)) false }
+pub fn node_limit(table: &Checked<'_>, n: usize) -> Result<(), Refusal>
+    ensures { done_of result ≡ limit_answer (limits.node_limit table.now n) }
 {
-    if count <= n {
-        return 2;
+    if table.count <= n {
+        return Err(Refusal::NoSuchNode);
     }
-    if WIDEST < groups::width_at(groups, n) {
-        return 3;
+    if WIDEST < table.width(n) {
+        return Err(Refusal::TooWide);
     }
-    if LARGEST < groups::size_at(groups, n) {
-        return 4;
+    if LARGEST < table.size(n) {
+        return Err(Refusal::TooLarge);
     }
-    NONE
+    Ok(())
 }
 
 // 5: so many bits from an offset on run past so many bytes. Nothing wraps: whole bytes are skipped first.
@@ -51,47 +46,26 @@ pub fn past(len: usize, offset: usize, width: u64) -> bool
     8 * (left as u64) < ((offset % 8) as u64) + width
 }
 
-// 2 to 5, of a record.
-pub fn record_limit(groups: &[u8], count: usize, len: usize, offset: usize, n: usize) -> u8
-    requires count_bound { count ≤ 1024 }
-    requires count_in_bounds { group_size * count ≤ length groups.now }
-    ensures { result ≡ first_rung (leb count n) (ltb 524288 (get_or (fact_in 0 8 groups.now) n 0)) (ltb 2097152 (get_or (fact_in 8 8 groups.now) n 0)) (ltb (8 * len) (offset + get_or (fact_in 0 8 groups.now) n 0)) }
+// 2 to 5, of a record that begins at an offset of so many bytes.
+pub fn record_limit(table: &Checked<'_>, len: usize, offset: usize, n: usize) -> Result<(), Refusal>
+    ensures { done_of result ≡ limit_answer (limits.bounded_limit table.now len offset n) }
 {
-    let limit = node_limit(groups, count, n);
-    if limit != NONE {
-        return limit;
+    node_limit(table, n)?;
+    if past(len, offset, table.width(n)) {
+        return Err(Refusal::OutOfBytes);
     }
-    if past(len, offset, groups::width_at(groups, n)) {
-        return 5;
-    }
-    NONE
+    Ok(())
 }
 
-// The smaller of two numbers: its rung comes first.
-pub fn least(a: u8, b: u8) -> u8
-    ensures { result ≡ min a b }
+// Of two refusals that of the smaller number: its rung comes first.
+pub fn earlier(a: Result<(), Refusal>, b: Result<(), Refusal>) -> Result<(), Refusal>
+    ensures { done_of result ≡ limits.earlier (done_of a) (done_of b) }
 {
-    if b < a {
+    let (Err(x), Err(y)) = (a, b) else {
+        return a.and(b);
+    };
+    if y.number() < x.number() {
         return b;
     }
     a
-}
-
-// The refusal with that number.
-pub fn limited(limit: u8) -> Done
-    ensures { done_of result ≡ limit_answer limit }
-{
-    if limit == 2 {
-        return Done::Refused(answers::NO_SUCH_NODE);
-    }
-    if limit == 3 {
-        return Done::Refused(answers::TOO_WIDE);
-    }
-    if limit == 4 {
-        return Done::Refused(answers::TOO_LARGE);
-    }
-    if limit == 5 {
-        return Done::Refused(answers::OUT_OF_BYTES);
-    }
-    Done::Accepted
 }

@@ -3,42 +3,24 @@
 
 ghost use Rattle.std.specs.Prelude.{◌≡◌, ◌<◌};
 ghost use Rattle.meaning.specs.Types.{same, bits};
-ghost use Rattle.meaning.specs.Tables.{table};
-ghost use Rattle.meaning.specs.Checked.{Sound};
 ghost use Rattle.meaning.specs.Ladder.{type_at};
 ghost use Rattle.checked.specs.Passed.{Named};
 
+use nodes::Checked;
+
 // How many bits the records of a node have.
-pub fn width_of(
-    kinds: &[u8],
-    lefts: &[u16],
-    rights: &[u16],
-    groups: &[u8],
-    count: usize,
-    node: usize,
-) -> usize
-    requires { Named (table kinds.now lefts.now rights.now groups.now count) node }
-    ensures { result ≡ bits (type_at (table kinds.now lefts.now rights.now groups.now count) node) }
+pub fn width_of(table: &Checked<'_>, node: usize) -> usize
+    requires { Named table.now node }
+    ensures { result ≡ bits (type_at table.now node) }
 {
-    groups::width_at(groups, node) as usize
+    table.width(node) as usize
 }
 
 // Two nodes have the same type: their classes are equal.
-pub fn same_type(
-    kinds: &[u8],
-    lefts: &[u16],
-    rights: &[u16],
-    groups: &[u8],
-    count: usize,
-    a: usize,
-    b: usize,
-) -> bool
-    requires sound { Sound (table kinds.now lefts.now rights.now groups.now count) }
-    requires a_lt_count { a < count }
-    requires b_lt_count { b < count }
-    ensures { result ≡ same (type_at (table kinds.now lefts.now rights.now groups.now count) a) (type_at (table kinds.now lefts.now rights.now groups.now count) b) }
+pub fn same_type(table: &Checked<'_>, a: usize, b: usize) -> bool
+    requires a_lt_count { a < table.now.count }
+    requires b_lt_count { b < table.now.count }
+    ensures { result ≡ same (type_at table.now a) (type_at table.now b) }
 {
-    let one = nodes::node_at(kinds, lefts, rights, groups, count, a);
-    let other = nodes::node_at(kinds, lefts, rights, groups, count, b);
-    one.class == other.class
+    table.node(a).class == table.node(b).class
 }

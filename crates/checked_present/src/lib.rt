@@ -1,55 +1,35 @@
 // Rungs 1 and 2 of the ladder: the table, and the nodes that a question about types names. A question about nodes begins with one of these
-// calls.
+// calls. What is accepted is the table, checked.
 #![tactic(auto)]
 
-ghost use Rattle.std.specs.Prelude.{◌≡◌, [], ◌∷◌};
-ghost use Rattle.meaning.specs.Tables.{table};
+ghost use Rattle.std.specs.Prelude.{◌≡◌, [], ◌∷◌, IfOk};
 ghost use Rattle.meaning.specs.TypeCalls.{asks};
 ghost use Rattle.answers.specs.Verdicts.{done_of};
 
-use answers::Done;
+use answers::Refusal;
+use nodes::Checked;
+use tables::Table;
 
 // 1 and 2, of one node.
-pub fn one(
-    kinds: &[u8],
-    lefts: &[u16],
-    rights: &[u16],
-    groups: &[u8],
-    count: usize,
-    node: usize,
-) -> Done
-    ensures { done_of result ≡ asks
-        (table kinds.now lefts.now rights.now groups.now count) (node ∷ []) [] (tt {0}) }
+pub fn one<'a>(table: &Table<'a>, node: usize) -> Result<Checked<'a>, Refusal>
+    ensures answer { done_of result ≡ asks table.now (node ∷ []) [] (tt {0}) }
+    ensures same { IfOk result (λ t. t ≡ table.now) }
 {
-    let judged = checked_table::sound(kinds, lefts, rights, groups, count);
-    if let Done::Refused(r) = judged {
-        return Done::Refused(r);
+    let checked = checked_table::sound(table)?;
+    if table.count <= node {
+        return Err(Refusal::NoSuchNode);
     }
-    if count <= node {
-        return Done::Refused(answers::NO_SUCH_NODE);
-    }
-    Done::Accepted
+    Ok(checked)
 }
 
 // 1 and 2, of two nodes.
-pub fn two(
-    kinds: &[u8],
-    lefts: &[u16],
-    rights: &[u16],
-    groups: &[u8],
-    count: usize,
-    a: usize,
-    b: usize,
-) -> Done
-    ensures { done_of result ≡ asks
-        (table kinds.now lefts.now rights.now groups.now count) (a ∷ b ∷ []) [] (tt {0}) }
+pub fn two<'a>(table: &Table<'a>, a: usize, b: usize) -> Result<Checked<'a>, Refusal>
+    ensures answer { done_of result ≡ asks table.now (a ∷ b ∷ []) [] (tt {0}) }
+    ensures same { IfOk result (λ t. t ≡ table.now) }
 {
-    let judged = one(kinds, lefts, rights, groups, count, a);
-    if let Done::Refused(r) = judged {
-        return Done::Refused(r);
+    let checked = one(table, a)?;
+    if table.count <= b {
+        return Err(Refusal::NoSuchNode);
     }
-    if count <= b {
-        return Done::Refused(answers::NO_SUCH_NODE);
-    }
-    Done::Accepted
+    Ok(checked)
 }

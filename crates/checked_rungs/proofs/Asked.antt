@@ -4,8 +4,8 @@
 --   last_node last_record       one node, or one record, is a list
 --   no_record                   a call that is handed no record has nothing to ask of bounds
 --   stream_stop stream_past stream_pass         how the bounds of a stream decide
---   true_node true_record       the numbers as they are asked, by the groups, are those of the types
---   reached                     what asking them takes: groups that reach the count
+--   stop_named stop_handed      1 refuses
+--   named_asked asked_one .. asked_three    past it one node, one record, a record and a node, two records, two records and a node decide
 -- Assumes nothing.
 use Prim.Native.Nat.{ℕ, ◌+◌, ◌*◌, ◌-◌, ◌≤◌, min}
 use native.Mathlib.Omega.{arith}
@@ -18,7 +18,7 @@ use borrow.Author.Tests.{leb-false, ltb-false}
 use Rattle.meaning.specs.Choice.{any}
 use Rattle.meaning.specs.Types.{Ty, bits, width, size}
 use Rattle.meaning.specs.Tables.{Table, table}
-use Rattle.meaning.specs.Ladder.{refused, accepted, Rung, rung, ladder, sound, named, stream_fits, Record, Stream, type_at, type_of}
+use Rattle.meaning.specs.Ladder.{Answer, refused, accepted, Rung, rung, ladder, sound, named, stream_fits, Record, Stream, type_at, type_of}
 use Rattle.meaning.specs.TypeCalls.{check_table_call}
 use Rattle.meaning.specs.RecordCalls.{handed}
 use Rattle.meaning.specs.CodecCalls.{read_rungs}
@@ -28,8 +28,8 @@ use Rattle.meaning.proofs.GroupLaws.{sound_group}
 use Rattle.meaning.proofs.Types.{width_bits}
 use Rattle.meaning.proofs.Sounds.{sound_width, sound_size}
 use Rattle.meaning.proofs.Ladders.{ladder_pass, ladder_stop, ladder_holds, ladder_fails}
-use Rattle.checked_limits.specs.Limits.{first_rung, limit_answer, node_limit, record_limit, limits_of}
-use Rattle.checked_limits.proofs.Limits.{same_test}
+use Rattle.checked_limits.specs.Limits.{first_rung, limit_answer, node_limit, record_limit, limits_of, earlier}
+use Rattle.checked_limits.proofs.Limits.{earlier_first}
 
 -- The least of two numbers is that of both facts together.
 least_first : (m w l p m' w' l' p' : Bool) → min (first_rung m w l p) (first_rung m' w' l' p') ≡ first_rung (m || m') (w || w') (l || l') (p || p')
@@ -130,51 +130,6 @@ idle (rung false m q ∷ rs) n p a = idle rs n p a
 pub no_record : (t : Table) (ns : List ℕ) → ladder (handed t [] ns) (tt {0}) ≡ ladder (named t ns) (tt {0})
 no_record t ns = idle (named t ns) 5 0 (tt {0})
 
--- The width and the size that a group tells decide as the true ones do; the bounds matter to a narrow type alone.
-same_first : (m w l p w' l' p' : Bool) → (m ≡ false → (w ≡ w') × (l ≡ l') × (w' ≡ false → p ≡ p')) → first_rung m w l p ≡ first_rung m w' l' p'
-same_first true w l p w' l' p' h = refl
-same_first false w l p w' l' p' h = let f = h refl in ap₂ (λ (x y : Bool). first_rung false x y p) f.0 f.1 ∙ last w' l' f.2
-  where
-    last : (x y : Bool) → (x ≡ false → p ≡ p') → first_rung false x y p ≡ first_rung false x y p'
-    last true y e = refl
-    last false true e = refl
-    last false false e = ap (λ (z : Bool). first_rung false false false z) (e refl)
-
--- A 64-bit width is above the limit exactly if the true one is.
-wide_bits : (x : Ty) → ltb 524288 (width x) ≡ ltb 524288 (bits x)
-wide_bits x = let e = width_bits x in same_test 524288 (width x) 524288 (bits x) (λ h. omega arith) (λ h. omega arith)
-
-module _ (t : Table) (s : Sound t) where
-  module _ (n : ℕ) (h : leb t.count n ≡ false) where
-    wide_is : ltb 524288 (get_or t.facts.widths n 0) ≡ ltb 524288 (bits (type_at t n))
-    wide_is = ap (ltb 524288) (sound_width t s n (leb-false t.count n h)) ∙ wide_bits (type_at t n)
-
-    large_is : ltb 2097152 (get_or t.facts.sizes n 0) ≡ ltb 2097152 (size (type_at t n))
-    large_is = ap (ltb 2097152) (sound_size t s n (leb-false t.count n h))
-
-    width_is : ltb 524288 (bits (type_at t n)) ≡ false → get_or t.facts.widths n 0 ≡ bits (type_at t n)
-    width_is e =
-        let l = ltb-false 524288 (bits (type_at t n)) e in
-        omega (arith, sound_width t s n (leb-false t.count n h), width_bits (type_at t n))
-
-  pub true_node : (n : ℕ)
-      → first_rung (leb t.count n) (ltb 524288 (get_or t.facts.widths n 0)) (ltb 2097152 (get_or t.facts.sizes n 0)) false ≡ node_limit t n
-  true_node n =
-      same_first (leb t.count n) (ltb 524288 (get_or t.facts.widths n 0)) (ltb 2097152 (get_or t.facts.sizes n 0)) false
-      (ltb 524288 (bits (type_at t n))) (ltb 2097152 (size (type_at t n))) false
-      (λ h. (wide_is n h, large_is n h, λ e. refl))
-
-  pub true_record : (r : Record)
-      → first_rung (leb t.count r.node) (ltb 524288 (get_or t.facts.widths r.node 0)) (ltb 2097152 (get_or t.facts.sizes r.node 0))
-      (ltb (8 * length r.bytes) (r.offset + get_or t.facts.widths r.node 0))
-      ≡ record_limit t r
-  true_record r =
-      let n = r.node in
-      same_first (leb t.count n) (ltb 524288 (get_or t.facts.widths n 0)) (ltb 2097152 (get_or t.facts.sizes n 0))
-      (ltb (8 * length r.bytes) (r.offset + get_or t.facts.widths n 0))
-      (ltb 524288 (bits (type_at t n))) (ltb 2097152 (size (type_at t n))) (ltb (8 * length r.bytes) (r.offset + bits (type_at t n)))
-      (λ h. (wide_is n h, large_is n h, λ e. ap (λ (k : ℕ). ltb (8 * length r.bytes) (r.offset + k)) (width_is n h e)))
-
 -- Rungs 1 to 5 of a stream.
 module _ (t : Table) (s : Stream) (n : ℕ) where
   abbrev runs_past : Bool
@@ -192,8 +147,62 @@ module _ (t : Table) (s : Stream) (n : ℕ) where
   stream_pass h p =
       sym (ladder_pass (named t (n ∷ [])) (stream_fits s) (tt {0}) (tt {0}) (tt {0}) h ∙ ladder_fails runs_past 5 0 [] (tt {0}) p)
 
-pub reached : (ks ls rs gs : List ℕ) (n : ℕ) → Sound (table ks ls rs gs n) → (n ≤ 1024) × (group_size * n ≤ length gs)
-reached ks ls rs gs n s =
-    let some = s.some_node in
-    let g = sound_group ks ls rs gs n (n - 1) s (omega arith) in
-    (s.few_nodes, omega arith)
+-- Past rung 1, one node of its own.
+pub named_asked : (t : Table) (n : ℕ) → accepted (tt {0}) ≡ check_table_call t → (a : Answer (Unit {0})) → a ≡ limit_answer (node_limit t n)
+    → a ≡ ladder (named t (n ∷ [])) (tt {0})
+named_asked t n h a e =
+    e ∙ ap limit_answer (last_node t n) ∙ sym (handed_asked t [] (n ∷ []) (sym h)) ∙ no_record t (n ∷ [])
+
+pub stop_named : (t : Table) (n : ℕ) (k p : ℕ) → refused k p ≡ check_table_call t → refused k p ≡ ladder (named t (n ∷ [])) (tt {0})
+stop_named t n k p h = sym (handed_stop t [] (n ∷ []) k p (sym h)) ∙ no_record t (n ∷ [])
+
+module _ (t : Table) where
+  pub stop_handed : (rs : List Record) (ns : List ℕ) (k p : ℕ) → refused k p ≡ check_table_call t → refused k p ≡ ladder (handed t rs ns) (tt {0})
+  stop_handed rs ns k p h = sym (handed_stop t rs ns k p (sym h))
+
+  -- The least of the numbers answers.
+  by_least : (rs : List Record) (ns : List ℕ) → accepted (tt {0}) ≡ check_table_call t → limit_answer (limits_of t rs ns) ≡ ladder (handed t rs ns) (tt {0})
+  by_least rs ns h = sym (handed_asked t rs ns (sym h))
+
+  -- Two numbers, and the earlier of what they answer.
+  of_records : (r s : Record) → limit_answer (min (record_limit t r) (record_limit t s)) ≡ earlier (limit_answer (record_limit t r)) (limit_answer (record_limit t s))
+  of_records r s =
+      earlier_first (missing t r.node) (wide t r.node) (large t r.node) (past t r) (missing t s.node) (wide t s.node) (large t s.node) (past t s)
+
+  of_record_node : (r : Record) (n : ℕ) → limit_answer (min (record_limit t r) (node_limit t n)) ≡ earlier (limit_answer (record_limit t r)) (limit_answer (node_limit t n))
+  of_record_node r n =
+      earlier_first (missing t r.node) (wide t r.node) (large t r.node) (past t r) (missing t n) (wide t n) (large t n) false
+
+  -- The least of a record's and a node's number is one of these numbers too.
+  of_three : (r s : Record) (n : ℕ)
+      → limit_answer (min (record_limit t r) (min (record_limit t s) (node_limit t n)))
+      ≡ earlier (limit_answer (record_limit t r)) (limit_answer (min (record_limit t s) (node_limit t n)))
+  of_three r s n =
+      ap (λ (k : ℕ). limit_answer (min (record_limit t r) k)) least
+      ∙ earlier_first (missing t r.node) (wide t r.node) (large t r.node) (past t r) (missing t s.node || missing t n) (wide t s.node || wide t n) (large t s.node || large t n) (past t s || false)
+      ∙ ap (λ (k : ℕ). earlier (limit_answer (record_limit t r)) (limit_answer k)) (sym least)
+    where
+      least : min (record_limit t s) (node_limit t n) ≡ first_rung (missing t s.node || missing t n) (wide t s.node || wide t n) (large t s.node || large t n) (past t s || false)
+      least = least_first (missing t s.node) (wide t s.node) (large t s.node) (past t s) (missing t n) (wide t n) (large t n) false
+
+  pub asked_one : (r : Record) → accepted (tt {0}) ≡ check_table_call t → (a : Answer (Unit {0})) → a ≡ limit_answer (record_limit t r)
+      → a ≡ ladder (handed t (r ∷ []) []) (tt {0})
+  asked_one r h a e = e ∙ ap limit_answer (last_record t r) ∙ by_least (r ∷ []) [] h
+
+  pub asked_to : (r : Record) (n : ℕ) → accepted (tt {0}) ≡ check_table_call t → (a x y : Answer (Unit {0})) → a ≡ earlier x y
+      → x ≡ limit_answer (record_limit t r) → y ≡ limit_answer (node_limit t n) → a ≡ ladder (handed t (r ∷ []) (n ∷ [])) (tt {0})
+  asked_to r n h a x y e f g =
+      e ∙ ap₂ earlier f g ∙ sym (of_record_node r n) ∙ ap (λ (k : ℕ). limit_answer (min (record_limit t r) k)) (last_node t n) ∙ by_least (r ∷ []) (n ∷ []) h
+
+  pub asked_two : (r s : Record) → accepted (tt {0}) ≡ check_table_call t → (a x y : Answer (Unit {0})) → a ≡ earlier x y
+      → x ≡ limit_answer (record_limit t r) → y ≡ limit_answer (record_limit t s) → a ≡ ladder (handed t (r ∷ s ∷ []) []) (tt {0})
+  asked_two r s h a x y e f g =
+      e ∙ ap₂ earlier f g ∙ sym (of_records r s) ∙ ap (λ (k : ℕ). limit_answer (min (record_limit t r) k)) (last_record t s) ∙ by_least (r ∷ s ∷ []) [] h
+
+  pub asked_three : (r s : Record) (n : ℕ) → accepted (tt {0}) ≡ check_table_call t → (a x w y z : Answer (Unit {0})) → a ≡ earlier x w → w ≡ earlier y z
+      → x ≡ limit_answer (record_limit t r) → y ≡ limit_answer (record_limit t s) → z ≡ limit_answer (node_limit t n)
+      → a ≡ ladder (handed t (r ∷ s ∷ []) (n ∷ [])) (tt {0})
+  asked_three r s n h a x w y z e d f g k =
+      e ∙ ap₂ earlier f (d ∙ ap₂ earlier g k ∙ sym (of_record_node s n)) ∙ sym (of_three r s n)
+      ∙ ap (λ (k : ℕ). limit_answer (min (record_limit t r) (min (record_limit t s) k))) (last_node t n)
+      ∙ by_least (r ∷ s ∷ []) (n ∷ []) h

@@ -1,41 +1,43 @@
-// Rung 1 of the ladder: the table, whatever is handed in. `table::check_table` is this call, and every other call that is handed facts begins with it.
+// Rung 1 of the ladder: the table, whatever is handed in. `table::check_table` asks no more, and every other call that is handed facts begins here.
 #![tactic(auto)]
 
-ghost use Rattle.std.specs.Prelude.{◌≡◌};
-ghost use Rattle.meaning.specs.Tables.{table};
+ghost use Rattle.std.specs.Prelude.{◌≡◌, IfOk};
 ghost use Rattle.meaning.specs.TypeCalls.{check_table_call};
 ghost use Rattle.answers.specs.Verdicts.{done_of};
 
-use answers::{Done, Refusal};
+use answers::{Refusal, UNSOUND};
+use nodes::Checked;
+use tables::{Columns, Table};
 
-// 1: the table is sound.
-pub fn sound(kinds: &[u8], lefts: &[u16], rights: &[u16], groups: &[u8], count: usize) -> Done
-    ensures { done_of result ≡ check_table_call (table kinds.now lefts.now rights.now groups.now count) }
+// 1: the table is sound. What is accepted is that table, checked.
+pub fn sound<'a>(table: &Table<'a>) -> Result<Checked<'a>, Refusal>
+    ensures answer { done_of result ≡ check_table_call table.now }
+    ensures same { IfOk result (λ t. t ≡ table.now) }
 {
+    let columns: &Columns<'a> = &table.columns;
+    let groups = table.groups;
+    let count = table.count;
     if count == 0 {
-        return Done::Refused(answers::UNSOUND);
+        return Err(UNSOUND);
     }
     if 1024 < count {
-        return Done::Refused(answers::UNSOUND);
+        return Err(UNSOUND);
     }
-    if kinds.len() < count {
-        return Done::Refused(answers::UNSOUND);
+    if columns.kinds.len() < count {
+        return Err(UNSOUND);
     }
-    if lefts.len() < count {
-        return Done::Refused(answers::UNSOUND);
+    if columns.lefts.len() < count {
+        return Err(UNSOUND);
     }
-    if rights.len() < count {
-        return Done::Refused(answers::UNSOUND);
+    if columns.rights.len() < count {
+        return Err(UNSOUND);
     }
     if groups.len() < groups::GROUP_BYTES * count {
-        return Done::Refused(answers::UNSOUND);
+        return Err(UNSOUND);
     }
-    let bad = facts::first_bad(kinds, lefts, rights, groups, count);
+    let bad = facts::first_bad(table);
     if bad < count {
-        return Done::Refused(Refusal {
-            number: answers::UNSOUND_NUMBER,
-            place: bad,
-        });
+        return Err(Refusal::Unsound { place: bad });
     }
-    Done::Accepted
+    Ok(Checked::new(table))
 }

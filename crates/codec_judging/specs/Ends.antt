@@ -1,11 +1,10 @@
 -- Where a reading ends.
 --
---   end_of          of a reading that began at a bit
-use Rattle.std.specs.Prelude.{ℕ, ◌+◌}
+--   end_of          of a reading that began at a bit; none if it ends early
+use Rattle.std.specs.Prelude.{ℕ, ◌+◌, Option, Some, None}
 use Rattle.meaning.specs.Codecs.{Decoded, early, decoded}
-use Rattle.codec_judging.specs.declared.End.{End}
 
 -- Where a reading that began at a bit ends.
-abbrev pub end_of : ℕ → Decoded → End
-end_of at early = End.Early
-end_of at (decoded v n) = End.At (at + n)
+abbrev pub end_of : ℕ → Decoded → Option ℕ
+end_of at early = None
+end_of at (decoded v n) = Some (at + n)

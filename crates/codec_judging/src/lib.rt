@@ -4,92 +4,61 @@
 #![tactic(auto)]
 
 ghost use Rattle.std.specs.Prelude.{◌≡◌, ◌*◌, ◌≤◌, length, take, drop};
-ghost use Rattle.meaning.specs.Tables.{table, columns, ty_at};
+ghost use Rattle.meaning.specs.Tables.{ty_at};
 ghost use Rattle.meaning.specs.Bits.{bits_of};
 ghost use Rattle.meaning.specs.Codecs.{decode_compact, is_early};
 ghost use Rattle.checked.specs.Passed.{Named};
 ghost use Rattle.codec_judging.specs.Ends.{end_of};
 
-// Where the compact bits of a record end.
-#[derive(Clone, Copy)]
-enum End {
-    At(usize),
-    Early,
-}
+use bits::bit_at;
+use checked_nodes::width_of;
+use nodes::Checked;
+use tables::Kind;
 
-// Where the compact bits of the record at a bit end, of a stream that ends at bit `until`.
+// Where the compact bits of the record at a bit end, of a stream that ends at bit `until`. None: the stream ends before they do.
 fn judge_compact(
-    kinds: &[u8],
-    lefts: &[u16],
-    rights: &[u16],
-    groups: &[u8],
-    count: usize,
+    table: &Checked<'_>,
     src: &[u8],
     until: usize,
     at: usize,
     node: usize,
-) -> End
-    requires named { Named (table kinds.now lefts.now rights.now groups.now count) node }
+) -> Option<usize>
+    requires named { Named table.now node }
     requires at_le_until { (at ≤ until) × (until ≤ 8 * length src.now) }
-    ensures { result ≡ end_of at (decode_compact (ty_at (columns kinds.now lefts.now rights.now) node) (drop at (take until (bits_of src.now)))) }
+    ensures { result ≡ end_of at (decode_compact (ty_at table.now.columns node) (drop at (take until (bits_of src.now)))) }
 {
-    let n = nodes::node_at(kinds, lefts, rights, groups, count, node);
+    let n = table.node(node);
     if !n.padded {
         let w = n.width as usize;
         if until - at < w {
-            return End::Early;
+            return None;
         }
-        return End::At(at + w);
+        return Some(at + w);
     }
-    if n.kind == 1 {
-        if at == until {
-            return End::Early;
+    match n.kind {
+        Kind::Sum => {
+            if at == until {
+                return None;
+            }
+            let side = n.side(bit_at(src, at));
+            judge_compact(table, src, until, at + 1, side.node)
         }
-        let side = nodes::side_of(n, bits::bit_at(src, at));
-        return judge_compact(
-            kinds,
-            lefts,
-            rights,
-            groups,
-            count,
-            src,
-            until,
-            at + 1,
-            side.node,
-        );
+        _ => {
+            let next = judge_compact(table, src, until, at, n.left)?;
+            judge_compact(table, src, until, next, n.right)
+        }
     }
-    let End::At(next) = judge_compact(kinds, lefts, rights, groups, count, src, until, at, n.left)
-    else {
-        return End::Early;
-    };
-    judge_compact(
-        kinds, lefts, rights, groups, count, src, until, next, n.right,
-    )
 }
 
 // Whether a stream that ends at bit `until` ends before the compact bits of the record at a bit do. They are no more than the record has bits,
 // so a stream with as many left needs no judge.
-pub fn ends_early(
-    kinds: &[u8],
-    lefts: &[u16],
-    rights: &[u16],
-    groups: &[u8],
-    count: usize,
-    src: &[u8],
-    until: usize,
-    at: usize,
-    node: usize,
-) -> bool
-    requires named { Named (table kinds.now lefts.now rights.now groups.now count) node }
+pub fn ends_early(table: &Checked<'_>, src: &[u8], until: usize, at: usize, node: usize) -> bool
+    requires named { Named table.now node }
     requires at_le_until { (at ≤ until) × (until ≤ 8 * length src.now) }
-    ensures { result ≡ is_early (decode_compact (ty_at (columns kinds.now lefts.now rights.now) node) (drop at (take until (bits_of src.now)))) }
+    ensures { result ≡ is_early (decode_compact (ty_at table.now.columns node) (drop at (take until (bits_of src.now)))) }
 {
-    let width = checked_nodes::width_of(kinds, lefts, rights, groups, count, node);
-    if width <= until - at {
+    if width_of(table, node) <= until - at {
         return false;
     }
-    match judge_compact(kinds, lefts, rights, groups, count, src, until, at, node) {
-        End::At(_) => false,
-        End::Early => true,
-    }
+    judge_compact(table, src, until, at, node).is_none()
 }

@@ -7,7 +7,7 @@
 --   Taken taken               the side of a sum that a tag took
 --   tag_inside payload_run first_run second_run     where tag, payload and parts lie in a record that lies in bytes
 -- Assumes nothing.
-use mathlib.Core.Path.{◌≡◌, sym, subst}
+use mathlib.Core.Path.{◌≡◌, refl, sym, subst}
 use mathlib.Core.Bool.{Bool, true, false}
 use mathlib.Core.List.{List}
 use Prim.Native.Nat.{ℕ, ◌+◌, ◌-◌, ◌*◌, ◌≤◌, ◌<◌}
@@ -15,6 +15,8 @@ use native.Mathlib.Omega.{arith}
 use lib.ListN.{length}
 use Rattle.meaning.specs.Types.{sum, prod, bits, width, top}
 use Rattle.meaning.specs.Tables.{Table, ty_at}
+use Rattle.tables.specs.declared.Kind.{Kind}
+use Rattle.tables.specs.Kinds.{kind_no}
 use Rattle.nodes.specs.declared.Node.{Node}
 use Rattle.nodes.specs.declared.Side.{Side}
 use Rattle.nodes.specs.Reading.{Reads, side_of}
@@ -36,6 +38,12 @@ pub record Taken (t : Table) (n : ℕ) (r : Node) (s : Side) : Type 0 where
   pub wide : s.width ≡ bits (ty_at t.columns s.node)
   pub room : 1 + s.width ≤ r.width
 
+-- Of the kinds with sides there are two.
+last_kind : (k : Kind) → 1 ≤ kind_no k → (k ≡ Kind.Sum → ⊥) → k ≡ Kind.Product
+last_kind Kind.Unit h f = absurd (omega arith)
+last_kind Kind.Sum h f = absurd (f refl)
+last_kind Kind.Product h f = refl
+
 module _ {t : Table} {n : ℕ} {r : Node} (h : NodeRead t n r) where
   pub own_width : r.width ≡ bits (ty_at t.columns n)
   own_width = nodes.own_width t n r h.reads h.named
@@ -43,36 +51,36 @@ module _ {t : Table} {n : ℕ} {r : Node} (h : NodeRead t n r) where
   pub low : width (ty_at t.columns n) < top
   low = nodes.low t n r h.reads h.named
 
-  pub is_sum_lem : r.kind ≡ 1 → ty_at t.columns n ≡ sum (ty_at t.columns r.left) (ty_at t.columns r.right)
+  pub is_sum_lem : r.kind ≡ Kind.Sum → ty_at t.columns n ≡ sum (ty_at t.columns r.left) (ty_at t.columns r.right)
   is_sum_lem = sum_tree t n r h.reads
 
   -- A node with padding that is no sum is a product.
-  is-two : r.padded ≡ true → (r.kind ≡ 1 → ⊥) → r.kind ≡ 2
-  is-two p f = omega (arith, padded_inner t n r h.reads p, h.reads.kind_low)
+  is_product : r.padded ≡ true → (r.kind ≡ Kind.Sum → ⊥) → r.kind ≡ Kind.Product
+  is_product p f = last_kind r.kind (padded_inner t n r h.reads p) f
 
-  pub is-prod : r.padded ≡ true → (r.kind ≡ 1 → ⊥) → ty_at t.columns n ≡ prod (ty_at t.columns r.left) (ty_at t.columns r.right)
-  is-prod p f = prod_tree t n r h.reads (is-two p f)
+  pub is-prod : r.padded ≡ true → (r.kind ≡ Kind.Sum → ⊥) → ty_at t.columns n ≡ prod (ty_at t.columns r.left) (ty_at t.columns r.right)
+  is-prod p f = prod_tree t n r h.reads (is_product p f)
 
   pub side : r.padded ≡ true → (g : Bool) → SideRead t n r g
   side p = side_read t n r h.reads h.named (padded_inner t n r h.reads p)
 
   -- Tag and payload fit a sum.
-  tag_room : r.kind ≡ 1 → (g : Bool) → 1 + (side_of g r).width ≤ r.width
+  tag_room : r.kind ≡ Kind.Sum → (g : Bool) → 1 + (side_of g r).width ≤ r.width
   tag_room k true = omega (arith, sum_total t n r h.reads h.named k)
   tag_room k false = omega (arith, sum_total t n r h.reads h.named k)
 
-  pub taken : r.padded ≡ true → r.kind ≡ 1 → (g : Bool) {s : Side} → s ≡ side_of g r → Taken t n r s
+  pub taken : r.padded ≡ true → r.kind ≡ Kind.Sum → (g : Bool) {s : Side} → s ≡ side_of g r → Taken t n r s
   taken p k g e =
       let x = side p g in
       subst (Taken t n r) (sym e) (record { named = x.named; falls = x.falls; wide = x.wide; room = tag_room k g })
 
   -- The parts make up a product.
-  both : r.padded ≡ true → (r.kind ≡ 1 → ⊥) → r.width ≡ r.left_width + r.right_width
-  both p f = prod_total t n r h.reads h.named (is-two p f)
+  both : r.padded ≡ true → (r.kind ≡ Kind.Sum → ⊥) → r.width ≡ r.left_width + r.right_width
+  both p f = prod_total t n r h.reads h.named (is_product p f)
 
   -- A record of the node that lies in the bytes x from bit `at` on.
   module _ {x : List ℕ} {at : ℕ} (i : Run x at (bits (ty_at t.columns n))) where
-    pub tag_inside : r.kind ≡ 1 → at < 8 * length x
+    pub tag_inside : r.kind ≡ Kind.Sum → at < 8 * length x
     tag_inside k = omega (arith, i.inside, own_width, tag_room k true)
 
     module _ (p : r.padded ≡ true) where
@@ -90,6 +98,6 @@ module _ {t : Table} {n : ℕ} {r : Node} (h : NodeRead t n r) where
             counted = omega (arith, i.counted, own_width, l.wide, l.fits);
           }
 
-      pub second_run : (r.kind ≡ 1 → ⊥) → Run x (at + r.left_width) (bits (ty_at t.columns r.right))
+      pub second_run : (r.kind ≡ Kind.Sum → ⊥) → Run x (at + r.left_width) (bits (ty_at t.columns r.right))
       second_run f =
           part_run i r.left_width (bits (ty_at t.columns r.right)) (omega (arith, own_width, (side p true).wide, both p f))

@@ -8,31 +8,27 @@
 -- Assumes nothing.
 use mathlib.Core.Path.{◌≡◌, refl, sym, ap, ap₂, ◌∙◌}
 use mathlib.Core.Bool.{Bool, true, false, cond}
-use mathlib.Core.List.{List, [], ◌∷◌, ◌++◌}
-use Prim.Native.Nat.{ℕ, zero, suc, ◌+◌, ◌-◌, ◌≤◌, ◌<◌}
-use native.Mathlib.Nat.{add-zero, zero-add, suc-add}
+use mathlib.Core.List.{List, ◌∷◌, ◌++◌}
+use Prim.Native.Nat.{ℕ, ◌+◌, ◌-◌, ◌≤◌, ◌<◌}
+use native.Mathlib.Nat.{add-zero}
 use native.Mathlib.Omega.{arith}
 use lib.ListN.{length, take, drop, get_or, length-drop}
-use lib.Seq.{drop-drop, take-take, take-nil, get_or-take, get_or-drop, length-take-le}
+use Rattle.std.proofs.lemmas.List.{drop-take}
+use lib.Seq.{drop-drop, take-take, get_or-take, get_or-drop, length-take-le}
 use Rattle.meaning.specs.Types.{Ty, unit, sum, prod, bits, width, padded, top}
 use Rattle.meaning.specs.Records.{tag, pad_left, pad_right, left_of, right_of, second_of, compact}
 use Rattle.meaning.proofs.Records.{bits_sum, bits_prod, unpadded_compact}
 use Rattle.meaning.proofs.Tests.{cond_true, cond_false}
 use Rattle.meaning.specs.Tables.{Table, ty_at}
+use Rattle.tables.specs.declared.Kind.{Kind}
 use Rattle.nodes.specs.declared.Node.{Node}
 use Rattle.nodes.specs.declared.Side.{Side}
 use Rattle.nodes.specs.Reading.{side_of}
 use Rattle.codec_laws.proofs.Nodes.{NodeRead, own_width, low, is_sum_lem, is-prod, side}
 
--- Dropping from what was taken.
-drop_take : {A : Type 0} (k n : ℕ) (l : List A) → drop k (take (k + n) l) ≡ take n (drop k l)
-drop_take zero n l = ap (λ (j : ℕ). take j l) (zero-add n)
-drop_take (suc k) n [] = ap (drop (suc k)) (take-nil (suc k + n)) ∙ sym (take-nil n)
-drop_take (suc k) n (x ∷ l) = ap (λ (j : ℕ). drop (suc k) (take j (x ∷ l))) (suc-add k n) ∙ drop_take k n l
-
 -- The end of a record, from bit k on, where n bits follow.
 end_of : (w k n : ℕ) (v : List Bool) → w ≡ k + n → drop k (take w v) ≡ take n (drop k v)
-end_of w k n v e = ap (λ (j : ℕ). drop k (take j v)) e ∙ drop_take k n v
+end_of w k n v e = ap (λ (j : ℕ). drop k (take j v)) e ∙ drop-take k n v
 
 pub compact_take : (t : Ty) (v : List Bool) → compact t (take (bits t) v) ≡ compact t v
 unfolding compact
@@ -109,7 +105,7 @@ module _ {t : Table} {n : ℕ} {r : Node} (h : NodeRead t n r) (s : List Bool) (
     abbrev after_tag : Bool → Side → List Bool
     after_tag c x = c ∷ compact (ty_at t.columns x.node) (drop (at + (r.width - x.width)) s)
 
-    either_tagged : r.kind ≡ 1 → (c : Bool) → get_or s at false ≡ c → compact (ty_at t.columns n) (drop at s) ≡ after_tag c (side_of c r)
+    either_tagged : r.kind ≡ Kind.Sum → (c : Bool) → get_or s at false ≡ c → compact (ty_at t.columns n) (drop at s) ≡ after_tag c (side_of c r)
     either_tagged k true e =
         let a = ty_at t.columns r.left in
         let b = ty_at t.columns r.right in
@@ -123,12 +119,12 @@ module _ {t : Table} {n : ℕ} {r : Node} (h : NodeRead t n r) (s : List Bool) (
         compact_left (ty_at t.columns n) a b s at (at + (r.width - r.left_width)) f e
         (omega (arith, own_width h, (side h p false).wide, ap bits f, bits_sum a b))
 
-    pub node_tagged : r.kind ≡ 1 → {x : Side} {c : Bool} → x ≡ side_of c r → c ≡ get_or s at false
+    pub node_tagged : r.kind ≡ Kind.Sum → {x : Side} {c : Bool} → x ≡ side_of c r → c ≡ get_or s at false
         → compact (ty_at t.columns n) (drop at s)
         ≡ c ∷ compact (ty_at t.columns x.node) (drop (at + (r.width - x.width)) s)
     node_tagged k {c = c} f e = either_tagged k c (sym e) ∙ ap (after_tag c) (sym f)
 
-    pub node_both : (r.kind ≡ 1 → ⊥)
+    pub node_both : (r.kind ≡ Kind.Sum → ⊥)
         → compact (ty_at t.columns n) (drop at s)
         ≡ compact (ty_at t.columns r.left) (drop at s) ++ compact (ty_at t.columns r.right) (drop (at + r.left_width) s)
     node_both k =

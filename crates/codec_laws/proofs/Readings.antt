@@ -20,6 +20,7 @@ use Rattle.meaning.specs.Tables.{Table, ty_at}
 use Rattle.meaning.specs.Bits.{bits_of, zeros}
 use Rattle.meaning.specs.Codecs.{Decoded, early, decoded, under_tag, after_first, decode_compact, is_early, decoded_record, consumed}
 use Rattle.laws.proofs.CodecExact.{compact_wide_enough}
+use Rattle.tables.specs.declared.Kind.{Kind}
 use Rattle.nodes.specs.declared.Node.{Node}
 use Rattle.codec_laws.specs.Walks.{Wrote, ReadTo}
 use Rattle.codec_laws.proofs.Writing.{wrote, wrote_run, wrote_tag, wrote_both}
@@ -50,10 +51,10 @@ module _ {t : Table} {n : ℕ} {r : Node} (h : NodeRead t n r) (s : List Bool) (
   pub run_enough : r.padded ≡ false → r.width ≤ length s - at
   run_enough p = elim (dec_le r.width (length s - at)) [ yes l ↦ l | no f ↦ absurd (not_early (decode_short h s at p (omega arith))) ]
 
-  pub tag_enough : r.kind ≡ 1 → at < length s
+  pub tag_enough : r.kind ≡ Kind.Sum → at < length s
   tag_enough k = elim (dec_le (length s) at) [ yes l ↦ absurd (not_early (decode_none h s at k l)) | no f ↦ omega arith ]
 
-  pub first_whole : r.padded ≡ true → (r.kind ≡ 1 → ⊥) → is_early (decode_compact (ty_at t.columns r.left) (drop at s)) ≡ false
+  pub first_whole : r.padded ≡ true → (r.kind ≡ Kind.Sum → ⊥) → is_early (decode_compact (ty_at t.columns r.left) (drop at s)) ≡ false
   first_whole p k = go (decode_compact (ty_at t.columns r.left) (drop at s)) refl
     where
       go : (x : Decoded) → decode_compact (ty_at t.columns r.left) (drop at s) ≡ x → is_early x ≡ false

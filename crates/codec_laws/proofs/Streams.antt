@@ -23,6 +23,7 @@ use Rattle.meaning.specs.Codecs.{Decoded, early, decoded, under_tag, after_first
 use Rattle.meaning.proofs.Records.{bits_sum}
 use Rattle.meaning.proofs.Tests.{cond_true, cond_false}
 use Rattle.laws.proofs.CodecReaders.{unpadded_same_reading}
+use Rattle.tables.specs.declared.Kind.{Kind}
 use Rattle.nodes.specs.declared.Node.{Node}
 use Rattle.nodes.specs.declared.Side.{Side}
 use Rattle.nodes.specs.Reading.{side_of}
@@ -78,7 +79,7 @@ module _ {t : Table} {n : ℕ} {r : Node} (h : NodeRead t n r) (s : List Bool) (
       (le-leb w (length (drop at s)) (omega (arith, own_width h, length-drop at s)))
       ∙ ap (λ (k : ℕ). decoded (take k (drop at s)) k) (sym (own_width h))
 
-  pub decode_none : r.kind ≡ 1 → length s ≤ at → decode_compact (ty_at t.columns n) (drop at s) ≡ early
+  pub decode_none : r.kind ≡ Kind.Sum → length s ≤ at → decode_compact (ty_at t.columns n) (drop at s) ≡ early
   decode_none k l = decode_nothing (ty_at t.columns n) (ty_at t.columns r.left) (ty_at t.columns r.right) s at (is_sum_lem h k) l
 
   module _ (p : r.padded ≡ true) where
@@ -86,7 +87,7 @@ module _ {t : Table} {n : ℕ} {r : Node} (h : NodeRead t n r) (s : List Bool) (
     abbrev after_tag : Bool → Side → Decoded
     after_tag c x = under_tag (under c (r.width - x.width - 1)) (decode_compact (ty_at t.columns x.node) (drop (at + 1) s))
 
-    either_tagged : r.kind ≡ 1 → at < length s → (c : Bool) → get_or s at false ≡ c → read ≡ after_tag c (side_of c r)
+    either_tagged : r.kind ≡ Kind.Sum → at < length s → (c : Bool) → get_or s at false ≡ c → read ≡ after_tag c (side_of c r)
     either_tagged k l true e =
         let a = ty_at t.columns r.left in
         let b = ty_at t.columns r.right in
@@ -110,17 +111,17 @@ module _ {t : Table} {n : ℕ} {r : Node} (h : NodeRead t n r) (s : List Bool) (
         e
         ∙ ap (λ (i : ℕ). under_tag (under false i) (decode_compact a (drop (at + 1) s))) j
 
-    pub decode_tagged : r.kind ≡ 1 → at < length s → {x : Side} {c : Bool} → x ≡ side_of c r → c ≡ get_or s at false
+    pub decode_tagged : r.kind ≡ Kind.Sum → at < length s → {x : Side} {c : Bool} → x ≡ side_of c r → c ≡ get_or s at false
         → decode_compact (ty_at t.columns n) (drop at s)
         ≡ under_tag (under c (r.width - x.width - 1)) (decode_compact (ty_at t.columns x.node) (drop (at + 1) s))
     decode_tagged k l {c = c} f e = either_tagged k l c (sym e) ∙ ap (after_tag c) (sym f)
 
-    pub decode_first_early : (r.kind ≡ 1 → ⊥) → decode_compact (ty_at t.columns r.left) (drop at s) ≡ early
+    pub decode_first_early : (r.kind ≡ Kind.Sum → ⊥) → decode_compact (ty_at t.columns r.left) (drop at s) ≡ early
         → decode_compact (ty_at t.columns n) (drop at s) ≡ early
     decode_first_early k e =
         decode_prod (ty_at t.columns n) (ty_at t.columns r.left) (ty_at t.columns r.right) s at early (is-prod h p k) e
 
-    pub decode_both : (r.kind ≡ 1 → ⊥) → {v : List Bool} {m : ℕ} → decode_compact (ty_at t.columns r.left) (drop at s) ≡ decoded v m
+    pub decode_both : (r.kind ≡ Kind.Sum → ⊥) → {v : List Bool} {m : ℕ} → decode_compact (ty_at t.columns r.left) (drop at s) ≡ decoded v m
         → decode_compact (ty_at t.columns n) (drop at s)
         ≡ after_first v m (decode_compact (ty_at t.columns r.right) (drop (at + m) s))
     decode_both k {v = v} {m = m} e =

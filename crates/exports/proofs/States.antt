@@ -1,6 +1,7 @@
 -- The struct that is made of slices stands for them: `ctx8` answers for it as for the slices.
 --
 --   no_stand stands             a struct out of range; one that holds the slices
+--   at_front                    a list at the front of a longer one
 --   stops keeps                 a ladder past a rung that holds, and an output after it
 --   handed_call handed_out      the answer, and the output
 -- Assumes nothing.
@@ -26,23 +27,20 @@ pub no_stand : (m : List ℕ) (k : ℕ) (b : List ℕ) (s : HashState) → s.use
 no_stand m k b s e out =
     record { ranges = ap (λ n. leb n 63) e ∙ sym out; means = λ h. absurd (true≢false (sym h ∙ out)) }
 
-pub stands : (m : List ℕ) (k : ℕ) (b z y : List ℕ) (s : HashState) → length m ≡ 32 → length b ≤ 63 → length z ≡ 32
-    → s.midstate ≡ m ++ drop (length m) z → s.count ≡ k → s.buffer ≡ b ++ drop (length b) y → s.used ≡ length b → Stands m k b s
+pub stands : (m : List ℕ) (k : ℕ) (b : List ℕ) (s : HashState) → length m ≡ 32 → length b ≤ 63 → s.midstate ≡ m → s.count ≡ k
+    → take (length b) s.buffer ≡ b → s.used ≡ length b → Stands m k b s
 unfolding ctx8_bits
-stands m k b z y s m32 b63 z32 first counted held used =
+stands m k b s m32 b63 first counted held used =
     record {
       ranges = ap (λ n. leb n 63) used ∙ fits;
       means = λ h.
           ap₂ (λ (x : List ℕ) (v : List Bool). buffer_bits 5 x ++ v)
-          (ap₂ take used held ∙ take-append_seam b (drop (length b) y) ∙ sym (take-length b))
-          (ap₂ (λ (n : ℕ) (x : List ℕ). to_bits 64 n ++ bits_of x) counted (first ∙ whole));
+          (ap (λ n. take n s.buffer) used ∙ held ∙ sym (take-length b))
+          (ap₂ (λ (n : ℕ) (x : List ℕ). to_bits 64 n ++ bits_of x) counted first);
     }
   where
     fits : leb (length b) 63 ≡ in_range m b
     fits = simp (eq-eqb (length m) 32 m32)
-
-    whole : m ++ drop (length m) z ≡ m
-    whole = ap (λ n. m ++ drop n z) (m32 ∙ sym z32) ∙ ap (λ x. m ++ x) (drop-length z) ∙ append-nil m
 
 stops : (rs ss us vs : List Rung) (a b : ℕ) → ladder ((rs ++ (rung true 6 0 ∷ ss)) ++ us) a ≡ ladder ((rs ++ (rung true 6 0 ∷ ss)) ++ vs) b
 unfolding ladder
@@ -55,6 +53,10 @@ unfolding ladder
 keeps [] ss us a out after = refl
 keeps (rung true n p ∷ rs) ss us a out after = refl
 keeps (rung false n p ∷ rs) ss us a out after = keeps rs ss us a out after
+
+-- A list at the front of a longer one.
+pub at_front : (b x rest : List ℕ) → x ≡ b → take (length b) (x ++ rest) ≡ b
+at_front b x rest e = ap (λ y. take (length b) (y ++ rest)) e ∙ take-append_seam b rest
 
 -- A call whose bits matter only in range.
 module _ (rs ss : List Rung) (v w : List Bool) (out : List ℕ) where

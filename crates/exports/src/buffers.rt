@@ -6,7 +6,8 @@ ghost use Rattle.meaning.specs.WordCalls.{buffer_call, buffer_out};
 ghost use Rattle.exports_answers.specs.Codes.{code, stored};
 ghost use Rattle.exports.specs.Handed.{ctx8_handed, ctx8_handed_out, Stands};
 
-use exports_answers::tell_count;
+use exports_answers::tell_number;
+use tables::Table;
 use words::HashState;
 
 // Data as a record of buffer type n.
@@ -26,22 +27,11 @@ pub fn qv_buffer8_two_n_plus_one(
     ensures width_after { width.new ≡ stored (buffer_call (table kinds.now lefts.now rights.now groups.now count) n «data».now res out.old) width.old }
     ensures out_after { out.new ≡ buffer_out (table kinds.now lefts.now rights.now groups.now count) n «data».now res out.old }
 {
-    tell_count(
-        words::buffer8_two_n_plus_one(kinds, lefts, rights, groups, count, n, data, res, out),
+    let table = Table::new(kinds, lefts, rights, groups, count);
+    tell_number(
+        words::buffer8_two_n_plus_one(&table, n, data, res, out),
         width,
     )
-}
-
-// Copies bytes to the front of others.
-fn copy_front(src: &[u8], dst: &mut [u8])
-    requires { length src.now ≤ length dst.old }
-    ensures { dst.new ≡ src.now ++ drop (length src.now) dst.old }
-{
-    let mut i = 0;
-    while i < src.len() {
-        dst[i] = src[i];
-        i += 1;
-    }
 }
 
 // A struct that `ctx8` refuses with 6: it uses more bytes than it has.
@@ -67,9 +57,9 @@ fn hash_state(midstate: &[u8], bytes_hashed: u64, buffer: &[u8]) -> HashState
         return no_state();
     }
     let mut first = [0u8; 32];
-    copy_front(midstate, &mut first);
+    first.copy_from_slice(midstate);
     let mut held = [0u8; 63];
-    copy_front(buffer, &mut held);
+    held[..buffer.len()].copy_from_slice(buffer);
     HashState {
         midstate: first,
         count: bytes_hashed,
@@ -96,9 +86,7 @@ pub fn qv_ctx8(
     ensures width_after { width.new ≡ stored (ctx8_handed (table kinds.now lefts.now rights.now groups.now count) midstate.now bytes_hashed buffer.now res out.old) width.old }
     ensures out_after { out.new ≡ ctx8_handed_out (table kinds.now lefts.now rights.now groups.now count) midstate.now bytes_hashed buffer.now res out.old }
 {
+    let table = Table::new(kinds, lefts, rights, groups, count);
     let state = hash_state(midstate, bytes_hashed, buffer);
-    tell_count(
-        words::ctx8(kinds, lefts, rights, groups, count, state, res, out),
-        width,
-    )
+    tell_number(words::ctx8(&table, state, res, out), width)
 }

@@ -5,7 +5,8 @@ ghost use Rattle.meaning.specs.Ladder.{record_of, stream_of};
 ghost use Rattle.meaning.specs.CodecCalls.{from_compact_call, from_compact_out, from_padded_call, from_padded_out, to_compact_call, to_compact_out, to_padded_call, to_padded_out};
 ghost use Rattle.exports_answers.specs.Codes.{code, stored};
 
-use exports_answers::tell_count;
+use exports_answers::tell_number;
+use tables::Table;
 
 // Reads a record from its compact bits; padding is zero. Accepted: the next position.
 pub fn qv_from_compact_bits(
@@ -24,11 +25,10 @@ pub fn qv_from_compact_bits(
     ensures position_after { position.new ≡ stored (from_compact_call (table kinds.now lefts.now rights.now groups.now count) (stream_of bytes.now until position.old) node out.old) position.old }
     ensures out_after { out.new ≡ from_compact_out (table kinds.now lefts.now rights.now groups.now count) (stream_of bytes.now until position.old) node out.old }
 {
+    let table = Table::new(kinds, lefts, rights, groups, count);
     let from = *position as usize;
-    let answer = codec::from_compact_bits(
-        kinds, lefts, rights, groups, count, bytes, until, from, node, out,
-    );
-    tell_count(answer, position)
+    let answer = codec::from_compact_bits(&table, bytes, until, from, node, out);
+    tell_number(answer, position)
 }
 
 // Reads a record from its padded bits; padding is as read. Accepted: the next position.
@@ -48,11 +48,10 @@ pub fn qv_from_padded_bits(
     ensures position_after { position.new ≡ stored (from_padded_call (table kinds.now lefts.now rights.now groups.now count) (stream_of bytes.now until position.old) node out.old) position.old }
     ensures out_after { out.new ≡ from_padded_out (table kinds.now lefts.now rights.now groups.now count) (stream_of bytes.now until position.old) node out.old }
 {
+    let table = Table::new(kinds, lefts, rights, groups, count);
     let from = *position as usize;
-    let answer = codec::from_padded_bits(
-        kinds, lefts, rights, groups, count, bytes, until, from, node, out,
-    );
-    tell_count(answer, position)
+    let answer = codec::from_padded_bits(&table, bytes, until, from, node, out);
+    tell_number(answer, position)
 }
 
 // Writes the compact bits of a record. Accepted: how many they are.
@@ -72,10 +71,9 @@ pub fn qv_to_compact_bits(
     ensures bits_after { bits.new ≡ stored (to_compact_call (table kinds.now lefts.now rights.now groups.now count) (record_of bytes.now offset node) out.old) bits.old }
     ensures out_after { out.new ≡ to_compact_out (table kinds.now lefts.now rights.now groups.now count) (record_of bytes.now offset node) out.old }
 {
-    tell_count(
-        codec::to_compact_bits(
-            kinds, lefts, rights, groups, count, bytes, offset, node, out,
-        ),
+    let table = Table::new(kinds, lefts, rights, groups, count);
+    tell_number(
+        codec::to_compact_bits(&table, bytes, offset, node, out),
         bits,
     )
 }
@@ -97,10 +95,9 @@ pub fn qv_to_padded_bits(
     ensures bits_after { bits.new ≡ stored (to_padded_call (table kinds.now lefts.now rights.now groups.now count) (record_of bytes.now offset node) out.old) bits.old }
     ensures out_after { out.new ≡ to_padded_out (table kinds.now lefts.now rights.now groups.now count) (record_of bytes.now offset node) out.old }
 {
-    tell_count(
-        codec::to_padded_bits(
-            kinds, lefts, rights, groups, count, bytes, offset, node, out,
-        ),
+    let table = Table::new(kinds, lefts, rights, groups, count);
+    tell_number(
+        codec::to_padded_bits(&table, bytes, offset, node, out),
         bits,
     )
 }

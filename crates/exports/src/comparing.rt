@@ -5,7 +5,8 @@ ghost use Rattle.meaning.specs.Ladder.{record_of};
 ghost use Rattle.meaning.specs.RecordCalls.{equal_call, compare_call};
 ghost use Rattle.exports_answers.specs.Codes.{code, stored_flag, stored_order};
 
-use exports_answers::{tell_flag, tell_order};
+use exports_answers::tell_number;
+use tables::Table;
 
 // Whether two records have the same type and the same bits.
 pub fn qv_equal(
@@ -25,11 +26,9 @@ pub fn qv_equal(
     ensures value { result ≡ code (equal_call (table kinds.now lefts.now rights.now groups.now count) (record_of a_bytes.now a_offset a_node) (record_of b_bytes.now b_offset b_node)) }
     ensures answer_after { answer.new ≡ stored_flag (equal_call (table kinds.now lefts.now rights.now groups.now count) (record_of a_bytes.now a_offset a_node) (record_of b_bytes.now b_offset b_node)) answer.old }
 {
-    tell_flag(
-        value::equal(
-            kinds, lefts, rights, groups, count, a_bytes, a_offset, a_node, b_bytes, b_offset,
-            b_node,
-        ),
+    let table = Table::new(kinds, lefts, rights, groups, count);
+    tell_number(
+        value::equal(&table, a_bytes, a_offset, a_node, b_bytes, b_offset, b_node),
         answer,
     )
 }
@@ -52,11 +51,9 @@ pub fn qv_compare(
     ensures value { result ≡ code (compare_call (table kinds.now lefts.now rights.now groups.now count) (record_of a_bytes.now a_offset a_node) (record_of b_bytes.now b_offset b_node)) }
     ensures order_after { order.new ≡ stored_order (compare_call (table kinds.now lefts.now rights.now groups.now count) (record_of a_bytes.now a_offset a_node) (record_of b_bytes.now b_offset b_node)) order.old }
 {
-    tell_order(
-        value::compare(
-            kinds, lefts, rights, groups, count, a_bytes, a_offset, a_node, b_bytes, b_offset,
-            b_node,
-        ),
+    let table = Table::new(kinds, lefts, rights, groups, count);
+    tell_number(
+        value::compare(&table, a_bytes, a_offset, a_node, b_bytes, b_offset, b_node),
         order,
     )
 }

@@ -5,7 +5,8 @@ ghost use Rattle.meaning.specs.Ladder.{record_of};
 ghost use Rattle.meaning.specs.RecordCalls.{unit_call, unit_out, left_call, left_out, right_call, right_out, product_call, product_out, none_call, none_out, some_call, some_out, zero_call, zero_out};
 ghost use Rattle.exports_answers.specs.Codes.{code, stored};
 
-use exports_answers::tell_count;
+use exports_answers::tell_number;
+use tables::Table;
 
 // The record of unit.
 pub fn qv_unit(
@@ -22,10 +23,8 @@ pub fn qv_unit(
     ensures width_after { width.new ≡ stored (unit_call (table kinds.now lefts.now rights.now groups.now count) res out.old) width.old }
     ensures out_after { out.new ≡ unit_out (table kinds.now lefts.now rights.now groups.now count) res out.old }
 {
-    tell_count(
-        value::unit(kinds, lefts, rights, groups, count, res, out),
-        width,
-    )
+    let table = Table::new(kinds, lefts, rights, groups, count);
+    tell_number(value::unit(&table, res, out), width)
 }
 
 // The record of zero bits, of any type.
@@ -43,10 +42,8 @@ pub fn qv_zero(
     ensures width_after { width.new ≡ stored (zero_call (table kinds.now lefts.now rights.now groups.now count) res out.old) width.old }
     ensures out_after { out.new ≡ zero_out (table kinds.now lefts.now rights.now groups.now count) res out.old }
 {
-    tell_count(
-        value::zero(kinds, lefts, rights, groups, count, res, out),
-        width,
-    )
+    let table = Table::new(kinds, lefts, rights, groups, count);
+    tell_number(value::zero(&table, res, out), width)
 }
 
 // A left record around its payload.
@@ -67,12 +64,8 @@ pub fn qv_left(
     ensures width_after { width.new ≡ stored (left_call (table kinds.now lefts.now rights.now groups.now count) (record_of bytes.now offset node) res out.old) width.old }
     ensures out_after { out.new ≡ left_out (table kinds.now lefts.now rights.now groups.now count) (record_of bytes.now offset node) res out.old }
 {
-    tell_count(
-        value::left(
-            kinds, lefts, rights, groups, count, bytes, offset, node, res, out,
-        ),
-        width,
-    )
+    let table = Table::new(kinds, lefts, rights, groups, count);
+    tell_number(value::left(&table, bytes, offset, node, res, out), width)
 }
 
 // A right record around its payload.
@@ -93,12 +86,8 @@ pub fn qv_right(
     ensures width_after { width.new ≡ stored (right_call (table kinds.now lefts.now rights.now groups.now count) (record_of bytes.now offset node) res out.old) width.old }
     ensures out_after { out.new ≡ right_out (table kinds.now lefts.now rights.now groups.now count) (record_of bytes.now offset node) res out.old }
 {
-    tell_count(
-        value::right(
-            kinds, lefts, rights, groups, count, bytes, offset, node, res, out,
-        ),
-        width,
-    )
+    let table = Table::new(kinds, lefts, rights, groups, count);
+    tell_number(value::right(&table, bytes, offset, node, res, out), width)
 }
 
 // Two records as one.
@@ -122,10 +111,10 @@ pub fn qv_product(
     ensures width_after { width.new ≡ stored (product_call (table kinds.now lefts.now rights.now groups.now count) (record_of a_bytes.now a_offset a_node) (record_of b_bytes.now b_offset b_node) res out.old) width.old }
     ensures out_after { out.new ≡ product_out (table kinds.now lefts.now rights.now groups.now count) (record_of a_bytes.now a_offset a_node) (record_of b_bytes.now b_offset b_node) res out.old }
 {
-    tell_count(
+    let table = Table::new(kinds, lefts, rights, groups, count);
+    tell_number(
         value::product(
-            kinds, lefts, rights, groups, count, a_bytes, a_offset, a_node, b_bytes, b_offset,
-            b_node, res, out,
+            &table, a_bytes, a_offset, a_node, b_bytes, b_offset, b_node, res, out,
         ),
         width,
     )
@@ -146,10 +135,8 @@ pub fn qv_none(
     ensures width_after { width.new ≡ stored (none_call (table kinds.now lefts.now rights.now groups.now count) res out.old) width.old }
     ensures out_after { out.new ≡ none_out (table kinds.now lefts.now rights.now groups.now count) res out.old }
 {
-    tell_count(
-        value::none(kinds, lefts, rights, groups, count, res, out),
-        width,
-    )
+    let table = Table::new(kinds, lefts, rights, groups, count);
+    tell_number(value::none(&table, res, out), width)
 }
 
 // The right record of a payload, of the sum of unit and its type.
@@ -170,10 +157,6 @@ pub fn qv_some(
     ensures width_after { width.new ≡ stored (some_call (table kinds.now lefts.now rights.now groups.now count) (record_of bytes.now offset node) res out.old) width.old }
     ensures out_after { out.new ≡ some_out (table kinds.now lefts.now rights.now groups.now count) (record_of bytes.now offset node) res out.old }
 {
-    tell_count(
-        value::some(
-            kinds, lefts, rights, groups, count, bytes, offset, node, res, out,
-        ),
-        width,
-    )
+    let table = Table::new(kinds, lefts, rights, groups, count);
+    tell_number(value::some(&table, bytes, offset, node, res, out), width)
 }

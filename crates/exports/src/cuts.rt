@@ -5,7 +5,8 @@ ghost use Rattle.meaning.specs.Ladder.{record_of};
 ghost use Rattle.meaning.specs.CutCalls.{prune_call, prune_out};
 ghost use Rattle.exports_answers.specs.Codes.{code, stored};
 
-use exports_answers::tell_count;
+use exports_answers::tell_number;
+use tables::Table;
 
 // Cuts a record to a target type. Accepted: its width.
 pub fn qv_prune(
@@ -25,10 +26,9 @@ pub fn qv_prune(
     ensures width_after { width.new ≡ stored (prune_call (table kinds.now lefts.now rights.now groups.now count) (record_of bytes.now offset node) target out.old) width.old }
     ensures out_after { out.new ≡ prune_out (table kinds.now lefts.now rights.now groups.now count) (record_of bytes.now offset node) target out.old }
 {
-    tell_count(
-        prune::prune(
-            kinds, lefts, rights, groups, count, bytes, offset, node, target, out,
-        ),
+    let table = Table::new(kinds, lefts, rights, groups, count);
+    tell_number(
+        prune::prune(&table, bytes, offset, node, target, out),
         width,
     )
 }

@@ -5,7 +5,8 @@ ghost use Rattle.meaning.specs.Ladder.{record_of, stream_of};
 ghost use Rattle.meaning.specs.WordCalls.{join_call, join_out, word_read_call, word_read_out};
 ghost use Rattle.exports_answers.specs.Codes.{code, stored};
 
-use exports_answers::tell_count;
+use exports_answers::tell_number;
+use tables::Table;
 
 // Two records of the same word type as a record of the next.
 pub fn qv_word_product(
@@ -28,10 +29,10 @@ pub fn qv_word_product(
     ensures width_after { width.new ≡ stored (join_call (table kinds.now lefts.now rights.now groups.now count) (record_of a_bytes.now a_offset a_node) (record_of b_bytes.now b_offset b_node) res out.old) width.old }
     ensures out_after { out.new ≡ join_out (table kinds.now lefts.now rights.now groups.now count) (record_of a_bytes.now a_offset a_node) (record_of b_bytes.now b_offset b_node) res out.old }
 {
-    tell_count(
+    let table = Table::new(kinds, lefts, rights, groups, count);
+    tell_number(
         words::word_product(
-            kinds, lefts, rights, groups, count, a_bytes, a_offset, a_node, b_bytes, b_offset,
-            b_node, res, out,
+            &table, a_bytes, a_offset, a_node, b_bytes, b_offset, b_node, res, out,
         ),
         width,
     )
@@ -55,9 +56,8 @@ pub fn qv_word_from_bits(
     ensures position_after { position.new ≡ stored (word_read_call (table kinds.now lefts.now rights.now groups.now count) (stream_of bytes.now until position.old) n node out.old) position.old }
     ensures out_after { out.new ≡ word_read_out (table kinds.now lefts.now rights.now groups.now count) (stream_of bytes.now until position.old) n node out.old }
 {
+    let table = Table::new(kinds, lefts, rights, groups, count);
     let from = *position as usize;
-    let answer = words::word_from_bits(
-        kinds, lefts, rights, groups, count, bytes, until, from, n, node, out,
-    );
-    tell_count(answer, position)
+    let answer = words::word_from_bits(&table, bytes, until, from, n, node, out);
+    tell_number(answer, position)
 }

@@ -5,7 +5,8 @@ ghost use Rattle.meaning.specs.Ladder.{record_of};
 ghost use Rattle.meaning.specs.RecordCalls.{compact_len_call, padded_len_call};
 ghost use Rattle.exports_answers.specs.Codes.{code, stored};
 
-use exports_answers::tell_count;
+use exports_answers::tell_number;
+use tables::Table;
 
 // Accepted: how many compact bits a record has.
 pub fn qv_compact_len(
@@ -22,10 +23,8 @@ pub fn qv_compact_len(
     ensures value { result ≡ code (compact_len_call (table kinds.now lefts.now rights.now groups.now count) (record_of bytes.now offset node)) }
     ensures bits_after { bits.new ≡ stored (compact_len_call (table kinds.now lefts.now rights.now groups.now count) (record_of bytes.now offset node)) bits.old }
 {
-    tell_count(
-        codec::compact_len(kinds, lefts, rights, groups, count, bytes, offset, node),
-        bits,
-    )
+    let table = Table::new(kinds, lefts, rights, groups, count);
+    tell_number(codec::compact_len(&table, bytes, offset, node), bits)
 }
 
 // Accepted: the width of a record.
@@ -43,8 +42,6 @@ pub fn qv_padded_len(
     ensures value { result ≡ code (padded_len_call (table kinds.now lefts.now rights.now groups.now count) (record_of bytes.now offset node)) }
     ensures bits_after { bits.new ≡ stored (padded_len_call (table kinds.now lefts.now rights.now groups.now count) (record_of bytes.now offset node)) bits.old }
 {
-    tell_count(
-        value::padded_len(kinds, lefts, rights, groups, count, bytes, offset, node),
-        bits,
-    )
+    let table = Table::new(kinds, lefts, rights, groups, count);
+    tell_number(value::padded_len(&table, bytes, offset, node), bits)
 }

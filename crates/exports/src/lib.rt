@@ -4,7 +4,7 @@
 // No call expects anything of its input. Each hands on to the call that it is named after and is proved against that call's definition.
 // `exports_c` gives them to C, under the same names and clauses, and `include/quelomavunt.h` declares them there. Here they are public to
 // Rattle: recorded answers are replayed through what C calls, and their contracts can be named where pairs of results are settled.
-// The files are the parts of the calls. The parts `types`, `word_types` and `words` are `type_calls`, `word_type_calls`
+// The files are the parts of the calls. The parts `tables`, `types`, `word_types` and `words` are `table_calls`, `type_calls`, `word_type_calls`
 // and `word_calls` here, since no module has the name of a crate that is called.
 #![tactic(auto)]
 
@@ -15,7 +15,7 @@ mod constructors;
 mod cuts;
 mod joins;
 mod lengths;
-mod tables;
+mod table_calls;
 mod type_calls;
 mod views;
 mod word_calls;
@@ -30,7 +30,7 @@ pub use constructors::{qv_left, qv_none, qv_product, qv_right, qv_some, qv_unit,
 pub use cuts::qv_prune;
 pub use joins::{qv_word_from_bits, qv_word_product};
 pub use lengths::{qv_compact_len, qv_padded_len};
-pub use tables::{qv_check_table, qv_fill_facts, qv_read_table};
+pub use table_calls::{qv_check_table, qv_fill_facts, qv_read_table};
 pub use type_calls::{
     qv_facts_of, qv_is_empty, qv_is_unit, qv_pad_left, qv_pad_right, qv_same_type,
     qv_type_as_product, qv_type_as_sum,

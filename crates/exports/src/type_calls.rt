@@ -4,7 +4,8 @@ ghost use Rattle.meaning.specs.Tables.{table};
 ghost use Rattle.meaning.specs.TypeCalls.{facts_of_call, same_type_call, is_unit_call, is_empty_call, type_as_sum_call, type_as_product_call, pad_left_call, pad_right_call};
 ghost use Rattle.exports_answers.specs.Codes.{code, stored, stored_flag, roomy, stored_all, facts_list, sides_list};
 
-use exports_answers::{tell_count, tell_facts, tell_flag, tell_sides};
+use exports_answers::{tell_number, tell_numbers};
+use tables::Table;
 
 // Accepted: width, size, padded, class, kind, left, right and least compact length of a node.
 pub fn qv_facts_of(
@@ -19,10 +20,8 @@ pub fn qv_facts_of(
     ensures value { result ≡ code (roomy facts_list facts.old (facts_of_call (table kinds.now lefts.now rights.now groups.now count) node)) }
     ensures facts_after { facts.new ≡ stored_all facts_list (roomy facts_list facts.old (facts_of_call (table kinds.now lefts.now rights.now groups.now count) node)) facts.old }
 {
-    tell_facts(
-        types::facts_of(kinds, lefts, rights, groups, count, node),
-        facts,
-    )
+    let table = Table::new(kinds, lefts, rights, groups, count);
+    tell_numbers(types::facts_of(&table, node), facts)
 }
 
 // Whether two nodes have the same type.
@@ -39,10 +38,8 @@ pub fn qv_same_type(
     ensures value { result ≡ code (same_type_call (table kinds.now lefts.now rights.now groups.now count) a b) }
     ensures answer_after { answer.new ≡ stored_flag (same_type_call (table kinds.now lefts.now rights.now groups.now count) a b) answer.old }
 {
-    tell_flag(
-        types::same_type(kinds, lefts, rights, groups, count, a, b),
-        answer,
-    )
+    let table = Table::new(kinds, lefts, rights, groups, count);
+    tell_number(types::same_type(&table, a, b), answer)
 }
 
 // Whether a type is unit.
@@ -58,10 +55,8 @@ pub fn qv_is_unit(
     ensures value { result ≡ code (is_unit_call (table kinds.now lefts.now rights.now groups.now count) node) }
     ensures answer_after { answer.new ≡ stored_flag (is_unit_call (table kinds.now lefts.now rights.now groups.now count) node) answer.old }
 {
-    tell_flag(
-        types::is_unit(kinds, lefts, rights, groups, count, node),
-        answer,
-    )
+    let table = Table::new(kinds, lefts, rights, groups, count);
+    tell_number(types::is_unit(&table, node), answer)
 }
 
 // Whether a type has no width.
@@ -77,10 +72,8 @@ pub fn qv_is_empty(
     ensures value { result ≡ code (is_empty_call (table kinds.now lefts.now rights.now groups.now count) node) }
     ensures answer_after { answer.new ≡ stored_flag (is_empty_call (table kinds.now lefts.now rights.now groups.now count) node) answer.old }
 {
-    tell_flag(
-        types::is_empty(kinds, lefts, rights, groups, count, node),
-        answer,
-    )
+    let table = Table::new(kinds, lefts, rights, groups, count);
+    tell_number(types::is_empty(&table, node), answer)
 }
 
 // Accepted: the sides of a sum.
@@ -96,10 +89,8 @@ pub fn qv_type_as_sum(
     ensures value { result ≡ code (roomy sides_list sides.old (type_as_sum_call (table kinds.now lefts.now rights.now groups.now count) node)) }
     ensures sides_after { sides.new ≡ stored_all sides_list (roomy sides_list sides.old (type_as_sum_call (table kinds.now lefts.now rights.now groups.now count) node)) sides.old }
 {
-    tell_sides(
-        types::as_sum(kinds, lefts, rights, groups, count, node),
-        sides,
-    )
+    let table = Table::new(kinds, lefts, rights, groups, count);
+    tell_numbers(types::as_sum(&table, node), sides)
 }
 
 // Accepted: the sides of a product.
@@ -115,10 +106,8 @@ pub fn qv_type_as_product(
     ensures value { result ≡ code (roomy sides_list sides.old (type_as_product_call (table kinds.now lefts.now rights.now groups.now count) node)) }
     ensures sides_after { sides.new ≡ stored_all sides_list (roomy sides_list sides.old (type_as_product_call (table kinds.now lefts.now rights.now groups.now count) node)) sides.old }
 {
-    tell_sides(
-        types::as_product(kinds, lefts, rights, groups, count, node),
-        sides,
-    )
+    let table = Table::new(kinds, lefts, rights, groups, count);
+    tell_numbers(types::as_product(&table, node), sides)
 }
 
 // Accepted: the padding of left records of the sum of two types.
@@ -135,10 +124,8 @@ pub fn qv_pad_left(
     ensures value { result ≡ code (pad_left_call (table kinds.now lefts.now rights.now groups.now count) a b) }
     ensures padding_after { padding.new ≡ stored (pad_left_call (table kinds.now lefts.now rights.now groups.now count) a b) padding.old }
 {
-    tell_count(
-        types::pad_left(kinds, lefts, rights, groups, count, a, b),
-        padding,
-    )
+    let table = Table::new(kinds, lefts, rights, groups, count);
+    tell_number(types::pad_left(&table, a, b), padding)
 }
 
 // Accepted: the padding of right records of the sum of two types.
@@ -155,8 +142,6 @@ pub fn qv_pad_right(
     ensures value { result ≡ code (pad_right_call (table kinds.now lefts.now rights.now groups.now count) a b) }
     ensures padding_after { padding.new ≡ stored (pad_right_call (table kinds.now lefts.now rights.now groups.now count) a b) padding.old }
 {
-    tell_count(
-        types::pad_right(kinds, lefts, rights, groups, count, a, b),
-        padding,
-    )
+    let table = Table::new(kinds, lefts, rights, groups, count);
+    tell_number(types::pad_right(&table, a, b), padding)
 }

@@ -5,7 +5,8 @@ ghost use Rattle.meaning.specs.Ladder.{record_of};
 ghost use Rattle.meaning.specs.RecordCalls.{as_left_call, as_right_call, as_product_call};
 ghost use Rattle.exports_answers.specs.Codes.{code, roomy, stored_all, spot_list, spots_list};
 
-use exports_answers::{tell_view, tell_views};
+use exports_answers::tell_numbers;
+use tables::Table;
 
 // Accepted: offset and node of the payload of a left record.
 pub fn qv_as_left(
@@ -22,10 +23,8 @@ pub fn qv_as_left(
     ensures value { result ≡ code (roomy spot_list view.old (as_left_call (table kinds.now lefts.now rights.now groups.now count) (record_of bytes.now offset node))) }
     ensures view_after { view.new ≡ stored_all spot_list (roomy spot_list view.old (as_left_call (table kinds.now lefts.now rights.now groups.now count) (record_of bytes.now offset node))) view.old }
 {
-    tell_view(
-        value::as_left(kinds, lefts, rights, groups, count, bytes, offset, node),
-        view,
-    )
+    let table = Table::new(kinds, lefts, rights, groups, count);
+    tell_numbers(value::as_left(&table, bytes, offset, node), view)
 }
 
 // Accepted: offset and node of the payload of a right record.
@@ -43,10 +42,8 @@ pub fn qv_as_right(
     ensures value { result ≡ code (roomy spot_list view.old (as_right_call (table kinds.now lefts.now rights.now groups.now count) (record_of bytes.now offset node))) }
     ensures view_after { view.new ≡ stored_all spot_list (roomy spot_list view.old (as_right_call (table kinds.now lefts.now rights.now groups.now count) (record_of bytes.now offset node))) view.old }
 {
-    tell_view(
-        value::as_right(kinds, lefts, rights, groups, count, bytes, offset, node),
-        view,
-    )
+    let table = Table::new(kinds, lefts, rights, groups, count);
+    tell_numbers(value::as_right(&table, bytes, offset, node), view)
 }
 
 // Accepted: offset and node of both parts of a product, the first before the second.
@@ -64,8 +61,6 @@ pub fn qv_as_product(
     ensures value { result ≡ code (roomy spots_list views.old (as_product_call (table kinds.now lefts.now rights.now groups.now count) (record_of bytes.now offset node))) }
     ensures views_after { views.new ≡ stored_all spots_list (roomy spots_list views.old (as_product_call (table kinds.now lefts.now rights.now groups.now count) (record_of bytes.now offset node))) views.old }
 {
-    tell_views(
-        value::as_product(kinds, lefts, rights, groups, count, bytes, offset, node),
-        views,
-    )
+    let table = Table::new(kinds, lefts, rights, groups, count);
+    tell_numbers(value::as_product(&table, bytes, offset, node), views)
 }

@@ -4,7 +4,8 @@ ghost use Rattle.meaning.specs.Tables.{table};
 ghost use Rattle.meaning.specs.WordCalls.{number_call, number_out, bytes_call, bytes_out, array_call, array_out};
 ghost use Rattle.exports_answers.specs.Codes.{code, stored};
 
-use exports_answers::tell_count;
+use exports_answers::tell_number;
+use tables::Table;
 
 // A number as a word of 1 bit.
 pub fn qv_u1(
@@ -22,10 +23,8 @@ pub fn qv_u1(
     ensures width_after { width.new ≡ stored (number_call (table kinds.now lefts.now rights.now groups.now count) 0 number res out.old) width.old }
     ensures out_after { out.new ≡ number_out (table kinds.now lefts.now rights.now groups.now count) 0 number res out.old }
 {
-    tell_count(
-        words::u1(kinds, lefts, rights, groups, count, number, res, out),
-        width,
-    )
+    let table = Table::new(kinds, lefts, rights, groups, count);
+    tell_number(words::u1(&table, number, res, out), width)
 }
 
 // A number as a word of 2 bits.
@@ -44,10 +43,8 @@ pub fn qv_u2(
     ensures width_after { width.new ≡ stored (number_call (table kinds.now lefts.now rights.now groups.now count) 1 number res out.old) width.old }
     ensures out_after { out.new ≡ number_out (table kinds.now lefts.now rights.now groups.now count) 1 number res out.old }
 {
-    tell_count(
-        words::u2(kinds, lefts, rights, groups, count, number, res, out),
-        width,
-    )
+    let table = Table::new(kinds, lefts, rights, groups, count);
+    tell_number(words::u2(&table, number, res, out), width)
 }
 
 // A number as a word of 4 bits.
@@ -66,10 +63,8 @@ pub fn qv_u4(
     ensures width_after { width.new ≡ stored (number_call (table kinds.now lefts.now rights.now groups.now count) 2 number res out.old) width.old }
     ensures out_after { out.new ≡ number_out (table kinds.now lefts.now rights.now groups.now count) 2 number res out.old }
 {
-    tell_count(
-        words::u4(kinds, lefts, rights, groups, count, number, res, out),
-        width,
-    )
+    let table = Table::new(kinds, lefts, rights, groups, count);
+    tell_number(words::u4(&table, number, res, out), width)
 }
 
 // 1 big-endian byte as a word of 8 bits.
@@ -88,10 +83,8 @@ pub fn qv_u8(
     ensures width_after { width.new ≡ stored (bytes_call (table kinds.now lefts.now rights.now groups.now count) 3 «data».now res out.old) width.old }
     ensures out_after { out.new ≡ bytes_out (table kinds.now lefts.now rights.now groups.now count) 3 «data».now res out.old }
 {
-    tell_count(
-        words::u8(kinds, lefts, rights, groups, count, data, res, out),
-        width,
-    )
+    let table = Table::new(kinds, lefts, rights, groups, count);
+    tell_number(words::u8(&table, data, res, out), width)
 }
 
 // 2 big-endian bytes as a word of 16 bits.
@@ -110,10 +103,8 @@ pub fn qv_u16(
     ensures width_after { width.new ≡ stored (bytes_call (table kinds.now lefts.now rights.now groups.now count) 4 «data».now res out.old) width.old }
     ensures out_after { out.new ≡ bytes_out (table kinds.now lefts.now rights.now groups.now count) 4 «data».now res out.old }
 {
-    tell_count(
-        words::u16(kinds, lefts, rights, groups, count, data, res, out),
-        width,
-    )
+    let table = Table::new(kinds, lefts, rights, groups, count);
+    tell_number(words::u16(&table, data, res, out), width)
 }
 
 // 4 big-endian bytes as a word of 32 bits.
@@ -132,10 +123,8 @@ pub fn qv_u32(
     ensures width_after { width.new ≡ stored (bytes_call (table kinds.now lefts.now rights.now groups.now count) 5 «data».now res out.old) width.old }
     ensures out_after { out.new ≡ bytes_out (table kinds.now lefts.now rights.now groups.now count) 5 «data».now res out.old }
 {
-    tell_count(
-        words::u32(kinds, lefts, rights, groups, count, data, res, out),
-        width,
-    )
+    let table = Table::new(kinds, lefts, rights, groups, count);
+    tell_number(words::u32(&table, data, res, out), width)
 }
 
 // 8 big-endian bytes as a word of 64 bits.
@@ -154,10 +143,8 @@ pub fn qv_u64(
     ensures width_after { width.new ≡ stored (bytes_call (table kinds.now lefts.now rights.now groups.now count) 6 «data».now res out.old) width.old }
     ensures out_after { out.new ≡ bytes_out (table kinds.now lefts.now rights.now groups.now count) 6 «data».now res out.old }
 {
-    tell_count(
-        words::u64(kinds, lefts, rights, groups, count, data, res, out),
-        width,
-    )
+    let table = Table::new(kinds, lefts, rights, groups, count);
+    tell_number(words::u64(&table, data, res, out), width)
 }
 
 // 16 big-endian bytes as a word of 128 bits.
@@ -176,10 +163,8 @@ pub fn qv_u128(
     ensures width_after { width.new ≡ stored (bytes_call (table kinds.now lefts.now rights.now groups.now count) 7 «data».now res out.old) width.old }
     ensures out_after { out.new ≡ bytes_out (table kinds.now lefts.now rights.now groups.now count) 7 «data».now res out.old }
 {
-    tell_count(
-        words::u128(kinds, lefts, rights, groups, count, data, res, out),
-        width,
-    )
+    let table = Table::new(kinds, lefts, rights, groups, count);
+    tell_number(words::u128(&table, data, res, out), width)
 }
 
 // 32 big-endian bytes as a word of 256 bits.
@@ -198,10 +183,8 @@ pub fn qv_u256(
     ensures width_after { width.new ≡ stored (bytes_call (table kinds.now lefts.now rights.now groups.now count) 8 «data».now res out.old) width.old }
     ensures out_after { out.new ≡ bytes_out (table kinds.now lefts.now rights.now groups.now count) 8 «data».now res out.old }
 {
-    tell_count(
-        words::u256(kinds, lefts, rights, groups, count, data, res, out),
-        width,
-    )
+    let table = Table::new(kinds, lefts, rights, groups, count);
+    tell_number(words::u256(&table, data, res, out), width)
 }
 
 // 64 big-endian bytes as a word of 512 bits.
@@ -220,10 +203,8 @@ pub fn qv_u512(
     ensures width_after { width.new ≡ stored (bytes_call (table kinds.now lefts.now rights.now groups.now count) 9 «data».now res out.old) width.old }
     ensures out_after { out.new ≡ bytes_out (table kinds.now lefts.now rights.now groups.now count) 9 «data».now res out.old }
 {
-    tell_count(
-        words::u512(kinds, lefts, rights, groups, count, data, res, out),
-        width,
-    )
+    let table = Table::new(kinds, lefts, rights, groups, count);
+    tell_number(words::u512(&table, data, res, out), width)
 }
 
 // A power of two of bytes as the word of so many bits.
@@ -242,8 +223,6 @@ pub fn qv_from_byte_array(
     ensures width_after { width.new ≡ stored (array_call (table kinds.now lefts.now rights.now groups.now count) «data».now res out.old) width.old }
     ensures out_after { out.new ≡ array_out (table kinds.now lefts.now rights.now groups.now count) «data».now res out.old }
 {
-    tell_count(
-        words::from_byte_array(kinds, lefts, rights, groups, count, data, res, out),
-        width,
-    )
+    let table = Table::new(kinds, lefts, rights, groups, count);
+    tell_number(words::from_byte_array(&table, data, res, out), width)
 }

@@ -10,7 +10,7 @@ mod constructors;
 mod cuts;
 mod joins;
 mod lengths;
-mod tables;
+mod table_calls;
 mod type_calls;
 mod views;
 mod word_calls;

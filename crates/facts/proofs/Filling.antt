@@ -11,23 +11,23 @@ use native.Mathlib.Omega.{arith}
 use lib.ListN.{length}
 use lib.Seq.{paste}
 use Rattle.meaning.specs.Groups.{group, group_size}
-use Rattle.meaning.specs.Tables.{Columns, facts_in}
+use Rattle.meaning.specs.Tables.{Columns, facts_in, digit}
 use Rattle.meaning.specs.TypeCalls.{group_of, groups_of, groups_written}
 use Rattle.meaning.proofs.GroupLaws.{length_groups_written, groups_more, written_right}
 use Rattle.facts.specs.Known.{FullReach, Known, Fillable}
-use Rattle.facts_sides.specs.Derived.{Derived}
-use Rattle.facts_sides.specs.declared.Found.{Found}
+use Rattle.groups.specs.declared.Facts.{Facts}
+use Rattle.facts_sides.specs.FactsOf.{FactsOf}
 
 pub filled_none : (c : Columns) (old : List ℕ) → old ≡ groups_written c 0 old
 unfolding groups_of
 filled_none c old = refl
 
 module _ (c : Columns) (n : ℕ) (old new : List ℕ) (done : new ≡ groups_written c n old) where
-  pub filled_more : (after : List ℕ) (r : Found) → Derived c n r
-      → after ≡ paste new (group_size * n) (group r.width r.size r.padded r.class r.least) group_size
+  pub filled_more : (after : List ℕ) (f : Facts) → FactsOf c n f
+      → after ≡ paste new (group_size * n) (group f.width f.size (digit f.padded) f.class f.least) group_size
       → after ≡ groups_written c (n + 1) old
   unfolding group_of
-  filled_more after r t e =
+  filled_more after f t e =
       let w = t.width_is in
       let s = t.size_is in
       let p = t.padded_is in

@@ -3,97 +3,87 @@
 #![tactic(auto)]
 
 ghost use Rattle.std.specs.Prelude.{◌≡◌, ◌+◌};
-ghost use Rattle.meaning.specs.Tables.{columns, table, first_bad};
+ghost use Rattle.meaning.specs.Tables.{first_bad};
 ghost use Rattle.meaning.specs.TypeCalls.{groups_written};
-ghost use Rattle.facts.specs.Known.{FullReach, Ready, Fillable};
-ghost use Rattle.facts_sides.specs.Derived.{Derived};
+ghost use Rattle.facts.specs.Known.{TableReach, Ready, Fillable, Derived};
 
-use facts_classes::{chain, class_at, slot_of};
+use facts_classes::{Chains, Key};
 use facts_entries::entry_right;
-use facts_sides::{Found, agrees, least_by, padded_by, side_at, size_by, width_by};
+use facts_sides::{agrees, facts_by};
+use groups::Facts;
+use tables::{Columns, Kind, Table};
+
+// What is found of a node: its facts, and the slot of its key.
+#[derive(Clone, Copy)]
+struct Found {
+    facts: Facts,
+    slot: usize,
+}
 
 // The facts of node n, by those of earlier nodes.
-fn facts_at(
-    kinds: &[u8],
-    lefts: &[u16],
-    rights: &[u16],
-    groups: &[u8],
-    heads: &[u16; 1024],
-    links: &[u16; 1024],
-    n: usize,
-) -> Found
-    requires { Ready (columns kinds.now lefts.now rights.now) groups.now heads.now links.now n }
-    ensures { Derived (columns kinds.now lefts.now rights.now) n result }
+fn facts_at(columns: &Columns<'_>, groups: &[u8], chains: &Chains, n: usize) -> Found
+    requires { Ready columns.now groups.now chains.now n }
+    ensures { Derived columns.now n result }
 {
-    let kind = kinds[n];
-    if kind == 0 {
+    let Ok(kind) = Kind::try_from(columns.kinds[n]) else {
+        unreachable!()
+    };
+    // The key of a unit is all zeros, and so is its slot.
+    if kind == Kind::Unit {
         return Found {
-            width: 0,
-            size: 1,
-            padded: 0,
-            class: 0,
-            least: 0,
+            facts: Facts {
+                width: 0,
+                size: 1,
+                padded: false,
+                class: 0,
+                least: 0,
+            },
             slot: 0,
         };
     }
-    let x = side_at(groups, lefts[n] as usize);
-    let y = side_at(groups, rights[n] as usize);
-    let slot = slot_of(kind, x.class, y.class);
-    let start = heads[slot] as usize;
+    let x = groups::facts_at(groups, columns.lefts[n] as usize);
+    let y = groups::facts_at(groups, columns.rights[n] as usize);
+    let key = Key {
+        kind,
+        left: x.class,
+        right: y.class,
+    };
+    let class = chains.class_of(columns, groups, key, n) as u16;
     Found {
-        width: width_by(kind, x.width, y.width),
-        size: size_by(x.size, y.size),
-        padded: padded_by(kind, x.padded, y.padded, x.width, y.width),
-        class: class_at(
-            kinds, lefts, rights, groups, links, start, kind, x.class, y.class, n,
-        ),
-        least: least_by(kind, x.least, y.least),
-        slot: slot,
+        facts: facts_by(kind, class, x, y),
+        slot: key.slot(),
     }
 }
 
 // The first node whose entry or any of whose facts is wrong, or the count.
-pub fn first_bad(kinds: &[u8], lefts: &[u16], rights: &[u16], groups: &[u8], count: usize) -> usize
-    requires { FullReach (columns kinds.now lefts.now rights.now) groups.now count }
-    ensures { result ≡ first_bad (table kinds.now lefts.now rights.now groups.now count) }
+pub fn first_bad(table: &Table<'_>) -> usize
+    requires { TableReach table.now }
+    ensures { result ≡ first_bad table.now }
 {
-    let mut heads = [0u16; 1024];
-    let mut links = [0u16; 1024];
-    let mut n = 0;
-    while n < count {
-        if !entry_right(kinds[n], n, lefts[n], rights[n]) {
+    let columns = &table.columns;
+    let mut chains = Chains::new();
+    for n in 0..table.count {
+        if !entry_right(columns.kinds[n], n, columns.lefts[n], columns.rights[n]) {
             return n;
         }
-        let f = facts_at(kinds, lefts, rights, groups, &heads, &links, n);
-        if !agrees(groups, n, f) {
+        let found = facts_at(columns, table.groups, &chains, n);
+        if !agrees(table.groups, n, found.facts) {
             return n;
         }
-        chain(&mut heads, &mut links, f.slot, f.class, n);
-        n += 1;
+        chains.add(found.slot, found.facts.class as usize, n);
     }
-    count
+    table.count
 }
 
 // Fills in the groups of a table whose entries are right.
-pub fn fill(kinds: &[u8], lefts: &[u16], rights: &[u16], count: usize, groups: &mut [u8])
-    requires { Fillable (columns kinds.now lefts.now rights.now) groups.old count }
-    ensures { groups.new ≡ groups_written (columns kinds.now lefts.now rights.now) count groups.old }
+pub fn fill(columns: &Columns<'_>, count: usize, groups: &mut [u8])
+    requires { Fillable columns.now groups.old count }
+    ensures { groups.new ≡ groups_written columns.now count groups.old }
 {
-    let mut heads = [0u16; 1024];
-    let mut links = [0u16; 1024];
-    let mut n = 0;
-    while n < count {
-        let f = facts_at(kinds, lefts, rights, groups, &heads, &links, n);
-        groups::put_facts(
-            groups,
-            n,
-            f.width,
-            f.size,
-            f.padded,
-            f.class as u16,
-            f.least,
-        );
-        chain(&mut heads, &mut links, f.slot, f.class, n);
-        n += 1;
+    let mut chains = Chains::new();
+    for n in 0..count {
+        let found = facts_at(columns, groups, &chains, n);
+        groups::put_facts(groups, n, found.facts);
+        chains.add(found.slot, found.facts.class as usize, n);
     }
 }

@@ -5,9 +5,10 @@
 --   slot_at                      the slot of a node's key
 --   Last                        the last number below a bound that has a property, or 0
 --   InSlot Keyed                a node of its own class, in a slot; with a key
---   Chained                     what the two arrays hold when the nodes below n are done
-use Rattle.std.specs.Prelude.{ℕ, ◌+◌, ◌*◌, ◌/◌, ◌%◌, ◌<◌, ◌≤◌, ◌≡◌, ◌⊎◌, List, length, get_or}
+--   Chained                     what the chains hold when the nodes below n are done
+use Rattle.std.specs.Prelude.{ℕ, ◌+◌, ◌*◌, ◌/◌, ◌%◌, ◌<◌, ◌≤◌, ◌≡◌, ◌⊎◌, length, get_or}
 use Rattle.meaning.specs.Tables.{Columns, kind, left, right, class_of}
+use Rattle.facts_classes.specs.declared.Chains.{Chains}
 
 -- The slot of a key, one of 1,024: the middle bits of its product with a number without pattern.
 unfoldable pub slot : ℕ → ℕ → ℕ → ℕ
@@ -35,8 +36,8 @@ pub record Keyed (c : Columns) (k a b m : ℕ) : Type 0 where
   pub same_right : class_of c (right c m) ≡ b
 
 -- Each slot starts at its last node below n, and each node of its own class goes on to the one before it.
-pub record Chained (c : Columns) (heads links : List ℕ) (n : ℕ) : Type 0 where
-  pub all_heads : length heads ≡ 1024
-  pub all_links : length links ≡ 1024
-  pub starts : (h : ℕ) → h < 1024 → Last (InSlot c h) n (get_or heads h 0)
-  pub goes_on : (m : ℕ) → m < n → class_of c m ≡ m → Last (InSlot c (slot_at c m)) m (get_or links m 0)
+pub record Chained (c : Columns) (r : Chains) (n : ℕ) : Type 0 where
+  pub all_heads : length r.heads ≡ 1024
+  pub all_links : length r.links ≡ 1024
+  pub starts : (h : ℕ) → h < 1024 → Last (InSlot c h) n (get_or r.heads h 0)
+  pub goes_on : (m : ℕ) → m < n → class_of c m ≡ m → Last (InSlot c (slot_at c m)) m (get_or r.links m 0)

@@ -2,39 +2,32 @@
 #![tactic(auto)]
 
 ghost use Rattle.std.specs.Prelude.{◌≡◌};
-ghost use Rattle.meaning.specs.Tables.{columns, sides_right, first_bad_entry};
+ghost use Rattle.meaning.specs.Tables.{sides_right, first_bad_entry};
 ghost use Rattle.facts_entries.specs.Reach.{Reach};
+
+use tables::{Columns, Kind};
 
 // The sides that a kind allows at node n.
 pub fn entry_right(kind: u8, n: usize, l: u16, r: u16) -> bool
     ensures { result ≡ sides_right kind n l r }
 {
-    if kind == 0 {
-        if l != 0 {
-            return false;
-        }
-        return r == 0;
+    match Kind::try_from(kind) {
+        Ok(Kind::Unit) => l == 0 && r == 0,
+        Ok(Kind::Sum | Kind::Product) => (l as usize) < n && (r as usize) < n,
+        Err(_) => false,
     }
-    if kind > 2 {
-        return false;
-    }
-    if l as usize >= n {
-        return false;
-    }
-    (r as usize) < n
 }
 
 // The first node whose entry is wrong, or the count.
-pub fn first_bad_entry(kinds: &[u8], lefts: &[u16], rights: &[u16], count: usize) -> usize
-    requires { Reach (columns kinds.now lefts.now rights.now) count }
-    ensures { result ≡ first_bad_entry (columns kinds.now lefts.now rights.now) count }
+#[tactic(auto, using(crate::proofs::Entries::bad_entry_here, crate::proofs::Entries::no_bad_entry), unfolding(meaning::specs::Tables::entry_right))]
+pub fn first_bad_entry(columns: &Columns<'_>, count: usize) -> usize
+    requires { Reach columns.now count }
+    ensures { result ≡ first_bad_entry columns.now count }
 {
-    let mut k = 0;
-    while k < count {
-        if !entry_right(kinds[k], k, lefts[k], rights[k]) {
+    for k in 0..count {
+        if !entry_right(columns.kinds[k], k, columns.lefts[k], columns.rights[k]) {
             return k;
         }
-        k += 1;
     }
     count
 }

@@ -1,2 +1,2 @@
 pub mod Sides
-pub mod Derived
+pub mod FactsOf

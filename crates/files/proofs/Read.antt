@@ -13,7 +13,7 @@ use lib.Dec.{ltb}
 use borrow.Author.Tests.{ltb-false}
 use Rattle.meaning.specs.Tables.{count_right}
 use Rattle.meaning.specs.Files.{Reading, faulty, found, number, and_then, ended, Entry, entry_of, entry_from, entries_from, table_in}
-use Rattle.files.proofs.Nodes.{found_faulty, same_found}
+use Rattle.files.proofs.Nodes.{same_found}
 use Rattle.files.proofs.Entries.{entries_length}
 
 -- A node of a file with its offset and the one after it: a unit, or a kind with two sides.
@@ -44,7 +44,7 @@ record Before {A B : Type 0} (r : Reading A) (f : A → ℕ → Reading B) (b : 
   then : found b next ≡ f what at
 
 before : {A B : Type 0} (r : Reading A) (f : A → ℕ → Reading B) (b : B) (next : ℕ) → found b next ≡ and_then r f → Before r f b next
-before (faulty p) f b next e = absurd (found_faulty b next p e)
+before (faulty p) f b next e = cc
 before (found a at) f b next e = record { what = a; at = at; first = refl; then = e }
 
 of_kind : (file : List ℕ) (n at k after : ℕ) (e : Entry) (next : ℕ) → found k after ≡ number (λ m. ltb m 3) file at
@@ -83,7 +83,7 @@ at_end file fs es end last q = by_test (ltb end (length file)) refl q
   where
     by_test : (b : Bool) → ltb end (length file) ≡ b → found es last ≡ cond b (faulty end) (found fs end)
         → (found es last ≡ found fs end) × (length file ≤ end)
-    by_test true t e = absurd (found_faulty es last end e)
+    by_test true t e = cc
     by_test false t e = (e, ltb-false end (length file) t)
 
 pub table_read : (file : List ℕ) (es : List Entry) (last : ℕ) → table_in file ≡ found es last → TableRead file es last

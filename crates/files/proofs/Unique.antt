@@ -23,7 +23,7 @@ use Rattle.meaning.specs.Files.{found, number_at, number, Entry, table_in}
 use Rattle.meaning.specs.Checked.{Bytes}
 use Rattle.meaning.proofs.Choices.{either}
 use Rattle.files_numbers.proofs.Numbers.{number_at_gone, number_at_one, number_at_cut, number_at_short, number_at_third, number_at_two}
-use Rattle.files.proofs.Nodes.{found_faulty, same_found, number_range}
+use Rattle.files.proofs.Nodes.{same_found, number_range}
 use Rattle.files.proofs.Read.{EntryRead, a_unit, with_sides, NodesRead, no_node, a-node, table_read}
 
 -- A number in groups of seven bits, the low group first, the top bit set on all but the last.
@@ -84,7 +84,7 @@ number-bytes file bytes at n next q =
     one_group file at n next h b s.0 s.1)
     (λ u. second h (ltb-false (get_or file at 0) 128 u))
     (either (ltb (get_or file at 0) 128)))
-    (λ t. absurd (found_faulty n next at (q ∙ sym (number_at_gone file at (ltb-false at (length file) t)))))
+    (λ t. cc (number_at_gone file at (ltb-false at (length file) t)))
     (either (ltb at (length file)))
   where
     third : at < length file → 128 ≤ get_or file at 0 → at + 1 < length file → 1 ≤ get_or file (at + 1) 0 → drop at file ≡ number_bytes n ++ drop next file
@@ -93,7 +93,7 @@ number-bytes file bytes at n next q =
         (λ t. let b : get_or file (at + 1) 0 < 128 = ltb-true (get_or file (at + 1) 0) 128 t in
         let s = same_found n (get_or file at 0 % 128 + 128 * get_or file (at + 1) 0) next (at + 2) (q ∙ sym (number_at_two file at h low i high b)) in
         two_groups file at n next i low (bytes.below at h) high b s.0 s.1)
-        (λ t. absurd (found_faulty n next at (q ∙ sym (number_at_third file at h low i high (ltb-false (get_or file (at + 1) 0) 128 t)))))
+        (λ t. cc (number_at_third file at h low i high (ltb-false (get_or file (at + 1) 0) 128 t)))
         (either (ltb (get_or file (at + 1) 0) 128))
 
     second : at < length file → 128 ≤ get_or file at 0 → drop at file ≡ number_bytes n ++ drop next file
@@ -101,9 +101,9 @@ number-bytes file bytes at n next q =
         ⊎_elim
         (λ t. let i : at + 1 < length file = ltb-true (at + 1) (length file) t in ⊎_elim
         (λ u. third h low i (leb-true 1 (get_or file (at + 1) 0) u))
-        (λ u. absurd (found_faulty n next at (q ∙ sym (number_at_short file at h low i (leb-false 1 (get_or file (at + 1) 0) u)))))
+        (λ u. cc (number_at_short file at h low i (leb-false 1 (get_or file (at + 1) 0) u)))
         (either (leb 1 (get_or file (at + 1) 0))))
-        (λ t. absurd (found_faulty n next at (q ∙ sym (number_at_cut file at h low (ltb-false (at + 1) (length file) t)))))
+        (λ t. cc (number_at_cut file at h low (ltb-false (at + 1) (length file) t)))
         (either (ltb (at + 1) (length file)))
 
 module _ (file : List ℕ) (bytes : Bytes file) where

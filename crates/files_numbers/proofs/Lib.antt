@@ -1,2 +1,3 @@
 -- Laws of a number in a file that belong to no one function.
 pub mod Numbers
+pub mod Told

@@ -1,2 +1,3 @@
 -- What the functions over a number answer.
+pub mod Places
 pub mod Readings

@@ -2,42 +2,33 @@
 // Inner: a group must be there, which every public call checks first.
 #![tactic(auto)]
 
-ghost use Rattle.std.specs.Prelude.{◌≡◌, ◌+◌, ◌*◌, ◌≤◌, length, drop, get_or};
+ghost use Rattle.std.specs.Prelude.{◌≡◌, ◌+◌, ◌*◌, ◌≤◌, length, take, drop, get_or};
 ghost use Rattle.std.proofs.Math.Seq.{paste};
-ghost use Rattle.meaning.specs.Groups.{low, low_bytes, group, group_size};
-ghost use Rattle.meaning.specs.Tables.{facts_in};
+ghost use Rattle.meaning.specs.Groups.{group, group_size};
+ghost use Rattle.meaning.specs.Tables.{facts_in, digit};
+ghost use Rattle.groups.specs.Held.{Held};
 
 // How many bytes a group has.
 pub const GROUP_BYTES: usize = 27;
 
-fn wide(x: u8) -> u64
-    ensures { result ≡ x }
-{
-    x as u64
+// The facts of a node.
+#[derive(Clone, Copy, PartialEq, Eq)]
+pub struct Facts {
+    pub width: u64,
+    pub size: u64,
+    pub padded: bool,
+    pub class: u16,
+    pub least: u64,
 }
 
-// Two bytes as a number, the low one first.
-fn two(a: u8, b: u8) -> u16
-    ensures { result ≡ a + 256 * b }
+// So many bytes, from one on.
+fn bytes_at<const K: usize>(s: &[u8], at: usize) -> [u8; K]
+    requires { at + K ≤ length s.now }
+    ensures { result ≡ take K (drop at s.now) }
 {
-    a as u16 + 256 * (b as u16)
-}
-
-// Four bytes as a number, the low one first.
-fn four(a: u8, b: u8, c: u8, d: u8) -> u64
-    ensures value { result ≡ a + 256 * (b + 256 * (c + 256 * d)) }
-    ensures upper_bound { result ≤ 4294967295 }
-{
-    wide(a) + 256 * (wide(b) + 256 * (wide(c) + 256 * wide(d)))
-}
-
-// The number of the eight bytes from a byte on.
-fn eight(s: &[u8], at: usize) -> u64
-    requires { at + 8 ≤ length s.now }
-    ensures { result ≡ low 8 (drop at s.now) }
-{
-    four(s[at], s[at + 1], s[at + 2], s[at + 3])
-        + 4294967296 * four(s[at + 4], s[at + 5], s[at + 6], s[at + 7])
+    let mut bytes = [0; K];
+    bytes.copy_from_slice(&s[at..at + K]);
+    bytes
 }
 
 // The width of a node.
@@ -45,7 +36,7 @@ pub fn width_at(groups: &[u8], n: usize) -> u64
     requires { group_size * (n + 1) ≤ length groups.now }
     ensures { result ≡ get_or (facts_in groups.now).widths n 0 }
 {
-    eight(groups, GROUP_BYTES * n)
+    u64::from_le_bytes(bytes_at(groups, GROUP_BYTES * n))
 }
 
 // The size of a node.
@@ -53,7 +44,7 @@ pub fn size_at(groups: &[u8], n: usize) -> u64
     requires { group_size * (n + 1) ≤ length groups.now }
     ensures { result ≡ get_or (facts_in groups.now).sizes n 0 }
 {
-    eight(groups, GROUP_BYTES * n + 8)
+    u64::from_le_bytes(bytes_at(groups, GROUP_BYTES * n + 8))
 }
 
 // The padded byte of a node.
@@ -69,8 +60,7 @@ pub fn class_at(groups: &[u8], n: usize) -> u16
     requires { group_size * (n + 1) ≤ length groups.now }
     ensures { result ≡ get_or (facts_in groups.now).classes n 0 }
 {
-    let at = GROUP_BYTES * n + 17;
-    two(groups[at], groups[at + 1])
+    u16::from_le_bytes(bytes_at(groups, GROUP_BYTES * n + 17))
 }
 
 // The least compact length of a node.
@@ -78,41 +68,33 @@ pub fn least_at(groups: &[u8], n: usize) -> u64
     requires { group_size * (n + 1) ≤ length groups.now }
     ensures { result ≡ get_or (facts_in groups.now).leasts n 0 }
 {
-    eight(groups, GROUP_BYTES * n + 19)
+    u64::from_le_bytes(bytes_at(groups, GROUP_BYTES * n + 19))
 }
 
-// Lays the k low bytes of a number from a byte on, the low byte first.
-fn put_low(out: &mut [u8], at: usize, x: u64, k: usize)
-    requires { at + k ≤ length out.old }
-    ensures { out.new ≡ paste out.old at (low_bytes k x) k }
+// All facts of a node. The padded byte of a lent group may be anything: any but 0 is read as a yes.
+pub fn facts_at(groups: &[u8], n: usize) -> Facts
+    requires { group_size * (n + 1) ≤ length groups.now }
+    ensures { Held (facts_in groups.now) n result }
 {
-    let mut left = x;
-    let mut i = 0;
-    while i < k {
-        out[at + i] = (left % 256) as u8;
-        left = left / 256;
-        i += 1;
+    Facts {
+        width: width_at(groups, n),
+        size: size_at(groups, n),
+        padded: padded_at(groups, n) != 0,
+        class: class_at(groups, n),
+        least: least_at(groups, n),
     }
 }
 
 // Lays the facts of a node into its group.
-pub fn put_facts(
-    groups: &mut [u8],
-    n: usize,
-    width: u64,
-    size: u64,
-    padded: u8,
-    class: u16,
-    least: u64,
-)
+pub fn put_facts(groups: &mut [u8], n: usize, facts: Facts)
     requires { group_size * (n + 1) ≤ length groups.old }
     ensures { groups.new ≡ paste groups.old (group_size * n)
-        (group width size padded class least) group_size }
+        (group facts.width facts.size (digit facts.padded) facts.class facts.least) group_size }
 {
     let at = GROUP_BYTES * n;
-    put_low(groups, at, width, 8);
-    put_low(groups, at + 8, size, 8);
-    put_low(groups, at + 16, padded as u64, 1);
-    put_low(groups, at + 17, class as u64, 2);
-    put_low(groups, at + 19, least, 8);
+    groups[at..at + 8].copy_from_slice(&facts.width.to_le_bytes());
+    groups[at + 8..at + 16].copy_from_slice(&facts.size.to_le_bytes());
+    groups[at + 16] = u8::from(facts.padded);
+    groups[at + 17..at + 19].copy_from_slice(&facts.class.to_le_bytes());
+    groups[at + 19..at + 27].copy_from_slice(&facts.least.to_le_bytes());
 }

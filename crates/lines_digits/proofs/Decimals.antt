@@ -1,52 +1,22 @@
 -- Laws of decimal numbers.
 --
---   digits_enough               more digits than a number has make no difference
---   decimal_one decimal_more    a number below ten is one digit; of any other the last digit follows those of its tenth part
+--   decimal_is                  a number is printed as std prints it
 --   decimal_length              a number has at most twenty digits
 --   number_room byte_room kind_room
---                               the bytes that a number, a byte and the word of a kind take with what follows them
+--                               the bytes that a number, a byte and the word of a kind take with what follows them; `rooms` are all three
 -- Assumes nothing.
-use Prim.Native.Nat.{ℕ, zero, suc, ◌/◌, ◌%◌, ◌^◌, ◌≤◌, ◌<◌, zero-le}
-use mathlib.Core.Path.{◌≡◌, ap, sym, ◌∙◌}
-use mathlib.Core.Bool.{Bool, true, false, cond}
-use mathlib.Core.List.{List, [], ◌∷◌, ◌++◌}
-use mathlib.Core.Logic.{⊎_elim}
-use native.Mathlib.Nat.{pow-suc}
-use native.Mathlib.Omega.{arith}
-use lib.Dec.{ltb}
-use lib.ListN.{length, length-append}
-use borrow.Author.Tests.{ltb-true, ltb-false, lt-ltb, le-ltb}
-use Rattle.meaning.proofs.Choices.{either}
+use Rattle.std.proofs.Common.{◌≡◌, ℕ, zero, suc, ◌/◌, ◌%◌, ◌^◌, ◌≤◌, ◌<◌, Bool, true, false, List, [], ◌∷◌, ◌++◌, length, ap, zero-le, cond, ltb, rules, arith, length-append}
+use Rattle.std.specs.Fmt as std
+use Rattle.std.proofs.lemmas.Fmt.{AppendsLastDigit, decimal_from_appends, length-decimal-le}
+use borrow.Author.Tests.{lt-ltb, le-ltb}
 use Rattle.lines_digits.specs.Report.{ascii, digits, decimal, digit_of, kind_word}
 
-digits_one : (k n : ℕ) → n < 10 → digits (suc k) n ≡ digit_of n ∷ []
+appends_digits : AppendsLastDigit digits
 unfolding digits
-digits_one k n h = rw (lt-ltb n 10 h)
+appends_digits = record { one = λ k n h. rw (lt-ltb n 10 h); more = λ k n h. rw (le-ltb n 10 h) }
 
-digits_more : (k n : ℕ) → 10 ≤ n → digits (suc k) n ≡ digits k (n / 10) ++ (digit_of (n % 10) ∷ [])
-unfolding digits
-digits_more k n h = rw (le-ltb n 10 h)
-
-tenth : (k n : ℕ) → n < 10 ^ suc (suc k) → n / 10 < 10 ^ suc k
-tenth k n h = let e = pow-suc 10 (suc k) in omega arith
-
-pub digits_enough : (k n : ℕ) → n < 10 ^ suc k → digits (suc k) n ≡ digits (suc (suc k)) n
-digits_enough zero n h = digits_one zero n h ∙ sym (digits_one 1 n h)
-digits_enough (suc k) n h =
-    ⊎_elim
-    (λ t. let s : n < 10 = ltb-true n 10 t in digits_one (suc k) n s ∙ sym (digits_one (suc (suc k)) n s))
-    (λ t. let s : 10 ≤ n = ltb-false n 10 t in
-    digits_more (suc k) n s
-    ∙ ap (λ d. d ++ (digit_of (n % 10) ∷ [])) (digits_enough k (n / 10) (tenth k n h))
-    ∙ sym (digits_more (suc (suc k)) n s))
-    (either (ltb n 10))
-
-pub decimal_one : (n : ℕ) → n < 10 → decimal n ≡ digit_of n ∷ []
-decimal_one n h = digits_one 19 n h
-
-pub decimal_more : (n : ℕ) → 10 ≤ n → n < 2 ^ 64 → decimal n ≡ decimal (n / 10) ++ (digit_of (n % 10) ∷ [])
-decimal_more n h w =
-    digits_more 19 n h ∙ ap (λ d. d ++ (digit_of (n % 10) ∷ [])) (digits_enough 18 (n / 10) (omega arith))
+pub decimal_is : (n : ℕ) → n < 2 ^ 64 → decimal n ≡ std.decimal n
+decimal_is n h = decimal_from_appends digits appends_digits 20 n h (search (rules, length-decimal-le 20))
 
 digits_length : (k n : ℕ) → length (digits k n) ≤ k
 unfolding digits
@@ -60,24 +30,6 @@ digits_length (suc k) n = by_test (ltb n 10) (digits k (n / 10)) (digits_length 
 pub decimal_length : (n : ℕ) → length (decimal n) ≤ 20
 decimal_length n = digits_length 20 n
 
--- A number below a power of ten has at most as many digits as that has zeros.
-digits_below : (m k n : ℕ) → n < 10 ^ suc k → length (digits m n) ≤ suc k
-unfolding digits
-digits_below zero k n h = zero-le
-digits_below (suc m) k n h =
-    ⊎_elim
-    (λ t. let e = ap length (digits_one m n (ltb-true n 10 t)) in omega arith)
-    (λ t. longer k h (ltb-false n 10 t) (λ j i. digits_below m j (n / 10) i))
-    (either (ltb n 10))
-  where
-    longer : (k : ℕ) → n < 10 ^ suc k → 10 ≤ n → ((j : ℕ) → n / 10 < 10 ^ suc j → length (digits m (n / 10)) ≤ suc j) → length (digits (suc m) n) ≤ suc k
-    longer zero i l ih = omega arith
-    longer (suc k) i l ih =
-        let e = ap length (digits_more m n l) in
-        let f = length-append (digits m (n / 10)) (digit_of (n % 10) ∷ []) in
-        let g = ih k (tenth k n i) in
-        omega arith
-
 -- A number and the byte that follows it take at most 21 bytes.
 pub number_room : (n stop : ℕ) → length (decimal n ++ (stop ∷ [])) ≤ 21
 number_room n stop = let d = decimal_length n in omega (arith, length-append (decimal n) (stop ∷ []))
@@ -90,4 +42,10 @@ kind_room (suc (suc k)) = omega arith
 
 -- A number that is a byte takes at most 4 with what follows it.
 pub byte_room : (n stop : ℕ) → n < 256 → length (decimal n ++ (stop ∷ [])) ≤ 4
-byte_room n stop h = let d = digits_below 20 2 n (omega arith) in omega (arith, length-append (decimal n) (stop ∷ []))
+byte_room n stop h =
+    let w : n < 2 ^ 64 = omega arith in
+    let d : length (std.decimal n) ≤ 3 = search (rules, length-decimal-le 3) in
+    omega (arith, length-append (decimal n) (stop ∷ []), ap length (decimal_is n w))
+
+-- The room that each part of a line takes.
+pub ruleset rooms = (number_room, kind_room, byte_room)

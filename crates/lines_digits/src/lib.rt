@@ -1,58 +1,60 @@
-// The parts of a report's lines, written into a lent buffer: numbers, words and the words of kinds.
-// Each function says which text stands at its offset afterwards and answers the offset after it; the rest of the buffer stays.
+// Text that is written to a lent buffer: numbers, words and the words of kinds, each behind what stands there already.
+// The parts are put one behind the other and no line is a `write!`, which says what was written only where it answers Ok, and never that it does.
 #![tactic(auto)]
 
-ghost use Rattle.std.specs.Prelude.{◌+◌, ◌≤◌, [], ◌∷◌, ◌++◌, length};
+ghost use Rattle.std.specs.Prelude.{◌≡◌, [], ◌∷◌, ◌++◌, length};
+ghost use Rattle.tables.specs.Kinds.{kind_no};
 ghost use Rattle.lines_digits.specs.Report.{ascii, decimal, kind_word};
-ghost use Rattle.lines_digits.specs.Buffer.{PutAt};
+ghost use Rattle.lines_digits.specs.Buffer.{HasRoom, Wrote};
 
-// A number in decimal, the leading digits first.
-fn put_digits(out: &mut [u8], at: usize, n: u64) -> usize
-    requires { at + length (decimal n) ≤ length out.old }
-    ensures { PutAt out.old at (decimal n) out.new result }
-{
-    if n < 10 {
-        out[at] = 48 + n as u8;
-        return at + 1;
-    }
-    let last = put_digits(out, at, n / 10);
-    out[last] = 48 + (n % 10) as u8;
-    last + 1
+use tables::Kind;
+
+// A lent buffer, and how much of it is written.
+#[derive(Drop)]
+pub struct Text<'a> {
+    pub out: &'a mut [u8],
+    pub len: usize,
 }
 
-// A number, and the byte that follows it.
-pub fn put_number(out: &mut [u8], at: usize, n: u64, stop: u8) -> usize
-    requires { at + 21 ≤ length out.old }
-    ensures { PutAt out.old at (decimal n ++ (stop ∷ [])) out.new result }
-{
-    let end = put_digits(out, at, n);
-    out[end] = stop;
-    end + 1
-}
+impl<'a> Text<'a> {
+    // Nothing is written yet.
+    pub fn new(out: &'a mut [u8]) -> Text<'a>
+        ensures same_buffer { result.out.ghost_name ≡ out.entry.ghost_name }
+        ensures empty { result.len ≡ 0 }
+        ensures kept { result.out.now ≡ out.old }
+    {
+        Text { out, len: 0 }
+    }
 
-// A word.
-pub fn put_word(out: &mut [u8], at: usize, word: &[u8]) -> usize
-    requires { at + length word.now ≤ length out.old }
-    ensures { PutAt out.old at word.now out.new result }
-{
-    let mut k = 0;
-    while k < word.len() {
-        out[at + k] = word[k];
-        k += 1;
+    // A word.
+    pub fn word(&mut self, word: &[u8])
+        requires { HasRoom self.old (length word.now) }
+        ensures { Wrote self.old word.now self.new }
+    {
+        let end = self.len + word.len();
+        self.out[self.len..end].copy_from_slice(word);
+        self.len = end;
     }
-    at + k
-}
 
-// The word of a kind, and a space.
-pub fn put_kind(out: &mut [u8], at: usize, kind: u8) -> usize
-    requires { at + 8 ≤ length out.old }
-    ensures { PutAt out.old at (kind_word kind ++ ascii " ") out.new result }
-{
-    if kind == 0 {
-        return put_word(out, at, b"unit ");
+    // A number in decimal, and the byte that follows it.
+    pub fn number(&mut self, n: u64, stop: u8)
+        requires { HasRoom self.old 21 }
+        ensures { Wrote self.old (decimal n ++ (stop ∷ [])) self.new }
+    {
+        let mut digits = itoa::Buffer::new();
+        self.word(digits.format(n).as_bytes());
+        self.word(&[stop]);
     }
-    if kind == 1 {
-        return put_word(out, at, b"sum ");
+
+    // The word of a kind, and a space.
+    pub fn kind(&mut self, kind: Kind)
+        requires { HasRoom self.old 8 }
+        ensures { Wrote self.old (kind_word (kind_no kind) ++ ascii " ") self.new }
+    {
+        match kind {
+            Kind::Unit => self.word(b"unit "),
+            Kind::Sum => self.word(b"sum "),
+            Kind::Product => self.word(b"product "),
+        }
     }
-    put_word(out, at, b"product ")
 }

@@ -1,20 +1,28 @@
--- What the parts of a list keep to.
+-- What the parts of a list are.
 --
---   Within          a run that lies in a list of so many bytes
---   Lent            a request whose runs lie in the list
-use Rattle.std.specs.Prelude.{ℕ, ◌≤◌}
-use Rattle.lists.specs.declared.Run.{Run}
-use Rattle.lists.specs.declared.requests.Request.{Request}
+--   number_of       the number that bytes make
+--   IsNumber        a number as it stands in a list
+--   LacksNumber     a list that does not start with a whole number
+--   IsRun           a run as it stands in a list
+--   LacksRun        a list that does not start with a whole run
+use Rattle.std.specs.Prelude.{◌≡◌, ℕ, ◌+◌, ◌*◌, ◌<◌, ◌≤◌, ◌⊎◌, List, ◌∷◌, ◌++◌, fold, length, slice_index}
 
--- It ends no earlier than it starts, and no later than the list.
-pub record Within (size : ℕ) (r : Run) : Type 0 where
-  pub forward : r.from ≤ r.to
-  pub inside : r.to ≤ size
+-- The number that bytes make, the highest first.
+abbrev pub number_of : List ℕ → ℕ
+number_of bytes = fold (λ number byte. number * 256 + byte) 0 bytes
 
--- All runs of a request lie in the list.
-pub record Lent (size : ℕ) (r : Request) : Type 0 where
-  pub a_within : Within size r.a
-  pub b_within : Within size r.b
-  pub stream_within : Within size r.stream
-  pub data_within : Within size r.data
-  pub buffer_within : Within size r.buffer
+-- A list is a number and then the rest: how many bytes the number takes, these, and the rest.
+abbrev pub IsNumber : List ℕ → ℕ → List ℕ → Type 0
+IsNumber list number rest = (bytes : List ℕ) × (list ≡ length bytes ∷ bytes ++ rest) × (number ≡ number_of bytes)
+
+-- There is no number of more than eight bytes, and none of more than the list has.
+abbrev pub LacksNumber : List ℕ → Type 0
+LacksNumber list = (8 < slice_index list 0) ⊎ (length list ≤ slice_index list 0)
+
+-- A list is a run and then the rest: the run's length as a number, its bytes, and the rest.
+abbrev pub IsRun : List ℕ → List ℕ → List ℕ → Type 0
+IsRun list run rest = IsNumber list (length run) (run ++ rest)
+
+-- There is no run without its length, and none of more than the list has.
+abbrev pub LacksRun : List ℕ → Type 0
+LacksRun list = LacksNumber list ⊎ ((count : ℕ) × (rest : List ℕ) × IsNumber list count rest × (length rest < count))

@@ -5,20 +5,20 @@
 use Rattle.std.specs.Prelude.{ℕ, ◌≤◌, ◌<◌, ◌≡◌, Bool, true, false}
 use Rattle.meaning.specs.Types.{width, padded}
 use Rattle.meaning.specs.Tables.{Table, left, right, node, ty_at, class_of}
+use Rattle.tables.specs.Kinds.{kind_no}
 use Rattle.nodes.specs.declared.Node.{Node}
 use Rattle.nodes.specs.declared.Side.{Side}
 
 -- The node's tree is made of its sides' trees; its sides are the columns' entries, and those of a sum and a product stand earlier; all facts
 -- are those of the trees.
 pub record Reads (t : Table) (n : ℕ) (r : Node) : Type 0 where
-  pub tree : ty_at t.columns n ≡ node r.kind (ty_at t.columns r.left) (ty_at t.columns r.right)
-  pub kind_low : r.kind ≤ 2
+  pub tree : ty_at t.columns n ≡ node (kind_no r.kind) (ty_at t.columns r.left) (ty_at t.columns r.right)
   pub left_is : r.left ≡ left t.columns n
   pub right_is : r.right ≡ right t.columns n
   pub left_in : r.left < t.count
   pub right_in : r.right < t.count
-  pub left_falls : 1 ≤ r.kind → r.left < n
-  pub right_falls : 1 ≤ r.kind → r.right < n
+  pub left_falls : 1 ≤ kind_no r.kind → r.left < n
+  pub right_falls : 1 ≤ kind_no r.kind → r.right < n
   pub width_is : r.width ≡ width (ty_at t.columns n)
   pub left_width_is : r.left_width ≡ width (ty_at t.columns r.left)
   pub right_width_is : r.right_width ≡ width (ty_at t.columns r.right)

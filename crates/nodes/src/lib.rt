@@ -1,16 +1,41 @@
-// Reading one node of a checked table, for the walkers above, and the side of it that a tag takes. Inner: the table must be sound, which every
-// public call checks first.
+// A checked table, and one node of it as the walkers above read it, with the side that a tag takes. Inner: a table is checked by the first rung of
+// every public call.
 #![tactic(auto)]
 
 ghost use Rattle.std.specs.Prelude.{◌≡◌, ◌<◌};
-ghost use Rattle.meaning.specs.Tables.{table};
+ghost use Rattle.meaning.specs.Types.{width, size};
+ghost use Rattle.meaning.specs.Tables.{ty_at};
 ghost use Rattle.meaning.specs.Checked.{Sound};
 ghost use Rattle.nodes.specs.Reading.{Reads, side_of};
+
+use std::marker::Model;
+use tables::{Columns, Kind, Table};
+
+// A table that is sound: who holds one has asked the first rung. A clause sees the table.
+#[derive(Drop)]
+pub struct Checked<'a> {
+    pub kinds: &'a [u8],
+    pub lefts: &'a [u16],
+    pub rights: &'a [u16],
+    pub groups: &'a [u8],
+    pub count: usize,
+}
+
+impl<'a> Model for Checked<'a> {
+    ghost use Rattle.meaning.specs.Tables.{Table, table};
+    ghost use Rattle.meaning.specs.Checked.{Sound};
+
+    ghost Value = { Table };
+
+    ghost view = { λ t. table t.kinds.now t.lefts.now t.rights.now t.groups.now t.count };
+
+    ghost invariant = { λ t. Sound (table t.kinds.now t.lefts.now t.rights.now t.groups.now t.count) };
+}
 
 // What a walker needs of a node. The sides of a unit are node 0.
 #[derive(Clone, Copy)]
 pub struct Node {
-    pub kind: u8,
+    pub kind: Kind,
     pub left: usize,
     pub right: usize,
     pub width: u64,
@@ -20,29 +45,58 @@ pub struct Node {
     pub class: usize,
 }
 
-pub fn node_at(
-    kinds: &[u8],
-    lefts: &[u16],
-    rights: &[u16],
-    groups: &[u8],
-    count: usize,
-    n: usize,
-) -> Node
-    requires sound { Sound (table kinds.now lefts.now rights.now groups.now count) }
-    requires n_lt_count { n < count }
-    ensures { Reads (table kinds.now lefts.now rights.now groups.now count) n result }
-{
-    let left = lefts[n] as usize;
-    let right = rights[n] as usize;
-    Node {
-        kind: kinds[n],
-        left: left,
-        right: right,
-        width: groups::width_at(groups, n),
-        left_width: groups::width_at(groups, left),
-        right_width: groups::width_at(groups, right),
-        padded: groups::padded_at(groups, n) == 1,
-        class: groups::class_at(groups, n) as usize,
+impl<'a> Checked<'a> {
+    // A table that the first rung has let pass.
+    pub fn new(table: &Table<'a>) -> Checked<'a>
+        requires { Sound table.now }
+        ensures { result ≡ table.now }
+    {
+        let columns: &Columns<'a> = &table.columns;
+        Checked {
+            kinds: columns.kinds,
+            lefts: columns.lefts,
+            rights: columns.rights,
+            groups: table.groups,
+            count: table.count,
+        }
+    }
+
+    // The width of a node.
+    pub fn width(&self, n: usize) -> u64
+        requires { n < self.now.count }
+        ensures { result ≡ width (ty_at self.now.columns n) }
+    {
+        let groups = self.groups;
+        groups::width_at(groups, n)
+    }
+
+    // Its size.
+    pub fn size(&self, n: usize) -> u64
+        requires { n < self.now.count }
+        ensures { result ≡ size (ty_at self.now.columns n) }
+    {
+        let groups = self.groups;
+        groups::size_at(groups, n)
+    }
+
+    // A node of the table.
+    pub fn node(&self, n: usize) -> Node
+        requires { n < self.now.count }
+        ensures { Reads self.now n result }
+    {
+        let kinds = self.kinds;
+        let left = self.lefts[n] as usize;
+        let right = self.rights[n] as usize;
+        Node {
+            kind: Kind::try_from(kinds[n]).unwrap(),
+            left,
+            right,
+            width: groups::width_at(self.groups, n),
+            left_width: groups::width_at(self.groups, left),
+            right_width: groups::width_at(self.groups, right),
+            padded: groups::padded_at(self.groups, n) == 1,
+            class: groups::class_at(self.groups, n) as usize,
+        }
     }
 }
 
@@ -53,18 +107,20 @@ pub struct Side {
     pub width: u64,
 }
 
-// The side that a tag takes: 0 the left one, 1 the right one.
-pub fn side_of(n: Node, right: bool) -> Side
-    ensures { result ≡ side_of right n }
-{
-    if right {
-        return Side {
-            node: n.right,
-            width: n.right_width,
-        };
-    }
-    Side {
-        node: n.left,
-        width: n.left_width,
+impl Node {
+    // The side that a tag takes: 0 the left one, 1 the right one.
+    pub fn side(self, right: bool) -> Side
+        ensures { result ≡ side_of right self }
+    {
+        if right {
+            return Side {
+                node: self.right,
+                width: self.right_width,
+            };
+        }
+        Side {
+            node: self.left,
+            width: self.left_width,
+        }
     }
 }

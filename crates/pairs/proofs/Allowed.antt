@@ -20,7 +20,8 @@ use contract.Monad.{fact, fact_use, fact_i}
 use denote.Triple.Clauses.{Clauses, Ended, Lasts, at_exit}
 use denote.Triple.Entry.{Args, Res}
 use Rattle.meaning.specs.Ladder.{Answer}
-use Rattle.answers.specs.declared.Count.{Count}
+use Rattle.std.specs.Prelude.{Result}
+use Rattle.answers.specs.declared.Refusal.{Refusal}
 use Rattle.answers.specs.Verdicts.{count_of}
 use Rattle.answers.proofs.Settled.{count_settled}
 
@@ -81,7 +82,7 @@ pub answered : {R A X : Type 0} (verdict : R → Answer A) → ((a b : R) → ve
 answered verdict settled e r s p q = (settled r s (p ∙ sym q), e)
 
 -- A count and an output, before which n parameters stand.
-pub written : (n : ℕ) (r s : Count) (x y : After n (List ℕ × Unit {0})) {answer : Answer ℕ} {out : List ℕ}
+pub written : (n : ℕ) (r s : Result ℕ Refusal) (x y : After n (List ℕ × Unit {0})) {answer : Answer ℕ} {out : List ℕ}
     → (count_of r ≡ answer) × ((rest n x).0 ≡ out) → (count_of s ≡ answer) × ((rest n y).0 ≡ out) → (r ≡ s) × (x ≡ y)
 written n r s x y p q = (count_settled r s (p.0 ∙ sym q.0), skips n x y (λ i. (same p.1 q.1 i, tt)))
 

@@ -18,13 +18,13 @@ use Rattle.pairs.proofs.Columns.{table_params}
 
 module _ {M : Type 1} {𝓤 : Ura M} (𝓛 : Logic 𝓤) (mem : Memory → SProp 𝓤) (run : Routine → Fun 𝓤) where
   pub buffer8_two_n_plus_one_settled : Settled 𝓤 buffer8-two-n-plus-one.ended (buffer8-two-n-plus-one.clauses 𝓛 mem run)
-  buffer8_two_n_plus_one_settled κs a g h r s x y = two 𝓤 (written (table_params + 3) r s x y)
+  buffer8_two_n_plus_one_settled κs a g h r s x y = two 𝓤 (written (1 + 3) r s x y)
 
   pub qv_buffer8_two_n_plus_one_settled : Settled 𝓤 qv-buffer8-two-n-plus-one.ended (qv-buffer8-two-n-plus-one.clauses 𝓛 mem run)
   qv_buffer8_two_n_plus_one_settled κs a g h r s x y = three 𝓤 (made (table_params + 3) 0 x y)
 
   pub ctx8_settled : Settled 𝓤 ctx8.ended (ctx8.clauses 𝓛 mem run)
-  ctx8_settled κs a g h r s x y = two 𝓤 (written (table_params + 2) r s x y)
+  ctx8_settled κs a g h r s x y = two 𝓤 (written (1 + 2) r s x y)
 
   pub qv_ctx8_settled : Settled 𝓤 qv-ctx8.ended (qv-ctx8.clauses 𝓛 mem run)
   qv_ctx8_settled κs a g h r s x y = three 𝓤 (made (table_params + 4) 0 x y)

@@ -22,25 +22,25 @@ use Rattle.pairs.proofs.Columns.{table_params}
 
 module _ {M : Type 1} {𝓤 : Ura M} (𝓛 : Logic 𝓤) (mem : Memory → SProp 𝓤) (run : Routine → Fun 𝓤) where
   pub from_compact_bits_settled : Settled 𝓤 from-compact-bits.ended (from-compact-bits.clauses 𝓛 mem run)
-  from_compact_bits_settled κs a g h r s x y = two 𝓤 (written (table_params + 4) r s x y)
+  from_compact_bits_settled κs a g h r s x y = two 𝓤 (written (1 + 4) r s x y)
 
   pub qv_from_compact_bits_settled : Settled 𝓤 qv-from-compact-bits.ended (qv-from-compact-bits.clauses 𝓛 mem run)
   qv_from_compact_bits_settled κs a g h r s x y = three 𝓤 (made (table_params + 2) 1 x y)
 
   pub from_padded_bits_settled : Settled 𝓤 from-padded-bits.ended (from-padded-bits.clauses 𝓛 mem run)
-  from_padded_bits_settled κs a g h r s x y = two 𝓤 (written (table_params + 4) r s x y)
+  from_padded_bits_settled κs a g h r s x y = two 𝓤 (written (1 + 4) r s x y)
 
   pub qv_from_padded_bits_settled : Settled 𝓤 qv-from-padded-bits.ended (qv-from-padded-bits.clauses 𝓛 mem run)
   qv_from_padded_bits_settled κs a g h r s x y = three 𝓤 (made (table_params + 2) 1 x y)
 
   pub to_compact_bits_settled : Settled 𝓤 to-compact-bits.ended (to-compact-bits.clauses 𝓛 mem run)
-  to_compact_bits_settled κs a g h r s x y = two 𝓤 (written (table_params + 3) r s x y)
+  to_compact_bits_settled κs a g h r s x y = two 𝓤 (written (1 + 3) r s x y)
 
   pub qv_to_compact_bits_settled : Settled 𝓤 qv-to-compact-bits.ended (qv-to-compact-bits.clauses 𝓛 mem run)
   qv_to_compact_bits_settled κs a g h r s x y = three 𝓤 (made (table_params + 3) 0 x y)
 
   pub to_padded_bits_settled : Settled 𝓤 to-padded-bits.ended (to-padded-bits.clauses 𝓛 mem run)
-  to_padded_bits_settled κs a g h r s x y = two 𝓤 (written (table_params + 3) r s x y)
+  to_padded_bits_settled κs a g h r s x y = two 𝓤 (written (1 + 3) r s x y)
 
   pub qv_to_padded_bits_settled : Settled 𝓤 qv-to-padded-bits.ended (qv-to-padded-bits.clauses 𝓛 mem run)
   qv_to_padded_bits_settled κs a g h r s x y = three 𝓤 (made (table_params + 3) 0 x y)

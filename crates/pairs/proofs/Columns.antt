@@ -1,6 +1,6 @@
 -- The parameters of a table: kinds, lefts, rights, groups and the count. Two contents of which the same is said, one by one, are equal.
 --
---   table_params                how many they are, where a call is handed a checked one
+--   table_params                how many they are, where C hands them one by one; from Rattle a table is one parameter
 --   Four four_told four         the four that `read_table` is lent to be written
 -- The last over B, what the parameters after them leave. Assumes nothing.
 use Prim.Native.Nat.{ℕ}

@@ -27,43 +27,43 @@ use Rattle.pairs.proofs.Columns.{table_params}
 
 module _ {M : Type 1} {𝓤 : Ura M} (𝓛 : Logic 𝓤) (mem : Memory → SProp 𝓤) (run : Routine → Fun 𝓤) where
   pub unit_settled : Settled 𝓤 unit.ended (unit.clauses 𝓛 mem run)
-  unit_settled κs a g h r s x y = two 𝓤 (written (table_params + 1) r s x y)
+  unit_settled κs a g h r s x y = two 𝓤 (written (1 + 1) r s x y)
 
   pub qv_unit_settled : Settled 𝓤 qv-unit.ended (qv-unit.clauses 𝓛 mem run)
   qv_unit_settled κs a g h r s x y = three 𝓤 (made (table_params + 1) 0 x y)
 
   pub zero_settled : Settled 𝓤 zero.ended (zero.clauses 𝓛 mem run)
-  zero_settled κs a g h r s x y = two 𝓤 (written (table_params + 1) r s x y)
+  zero_settled κs a g h r s x y = two 𝓤 (written (1 + 1) r s x y)
 
   pub qv_zero_settled : Settled 𝓤 qv-zero.ended (qv-zero.clauses 𝓛 mem run)
   qv_zero_settled κs a g h r s x y = three 𝓤 (made (table_params + 1) 0 x y)
 
   pub left_settled : Settled 𝓤 left.ended (left.clauses 𝓛 mem run)
-  left_settled κs a g h r s x y = two 𝓤 (written (table_params + 4) r s x y)
+  left_settled κs a g h r s x y = two 𝓤 (written (1 + 4) r s x y)
 
   pub qv_left_settled : Settled 𝓤 qv-left.ended (qv-left.clauses 𝓛 mem run)
   qv_left_settled κs a g h r s x y = three 𝓤 (made (table_params + 4) 0 x y)
 
   pub right_settled : Settled 𝓤 right.ended (right.clauses 𝓛 mem run)
-  right_settled κs a g h r s x y = two 𝓤 (written (table_params + 4) r s x y)
+  right_settled κs a g h r s x y = two 𝓤 (written (1 + 4) r s x y)
 
   pub qv_right_settled : Settled 𝓤 qv-right.ended (qv-right.clauses 𝓛 mem run)
   qv_right_settled κs a g h r s x y = three 𝓤 (made (table_params + 4) 0 x y)
 
   pub product_settled : Settled 𝓤 product.ended (product.clauses 𝓛 mem run)
-  product_settled κs a g h r s x y = two 𝓤 (written (table_params + 7) r s x y)
+  product_settled κs a g h r s x y = two 𝓤 (written (1 + 7) r s x y)
 
   pub qv_product_settled : Settled 𝓤 qv-product.ended (qv-product.clauses 𝓛 mem run)
   qv_product_settled κs a g h r s x y = three 𝓤 (made (table_params + 7) 0 x y)
 
   pub none_settled : Settled 𝓤 none.ended (none.clauses 𝓛 mem run)
-  none_settled κs a g h r s x y = two 𝓤 (written (table_params + 1) r s x y)
+  none_settled κs a g h r s x y = two 𝓤 (written (1 + 1) r s x y)
 
   pub qv_none_settled : Settled 𝓤 qv-none.ended (qv-none.clauses 𝓛 mem run)
   qv_none_settled κs a g h r s x y = three 𝓤 (made (table_params + 1) 0 x y)
 
   pub some_settled : Settled 𝓤 some.ended (some.clauses 𝓛 mem run)
-  some_settled κs a g h r s x y = two 𝓤 (written (table_params + 4) r s x y)
+  some_settled κs a g h r s x y = two 𝓤 (written (1 + 4) r s x y)
 
   pub qv_some_settled : Settled 𝓤 qv-some.ended (qv-some.clauses 𝓛 mem run)
   qv_some_settled κs a g h r s x y = three 𝓤 (made (table_params + 4) 0 x y)

@@ -15,7 +15,7 @@ use Rattle.pairs.proofs.Columns.{table_params}
 
 module _ {M : Type 1} {𝓤 : Ura M} (𝓛 : Logic 𝓤) (mem : Memory → SProp 𝓤) (run : Routine → Fun 𝓤) where
   pub prune_settled : Settled 𝓤 prune.ended (prune.clauses 𝓛 mem run)
-  prune_settled κs a g h r s x y = two 𝓤 (written (table_params + 4) r s x y)
+  prune_settled κs a g h r s x y = two 𝓤 (written (1 + 4) r s x y)
 
   pub qv_prune_settled : Settled 𝓤 qv-prune.ended (qv-prune.clauses 𝓛 mem run)
   qv_prune_settled κs a g h r s x y = three 𝓤 (made (table_params + 4) 0 x y)

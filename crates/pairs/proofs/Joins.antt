@@ -18,13 +18,13 @@ use Rattle.pairs.proofs.Columns.{table_params}
 
 module _ {M : Type 1} {𝓤 : Ura M} (𝓛 : Logic 𝓤) (mem : Memory → SProp 𝓤) (run : Routine → Fun 𝓤) where
   pub word_product_settled : Settled 𝓤 word-product.ended (word-product.clauses 𝓛 mem run)
-  word_product_settled κs a g h r s x y = two 𝓤 (written (table_params + 7) r s x y)
+  word_product_settled κs a g h r s x y = two 𝓤 (written (1 + 7) r s x y)
 
   pub qv_word_product_settled : Settled 𝓤 qv-word-product.ended (qv-word-product.clauses 𝓛 mem run)
   qv_word_product_settled κs a g h r s x y = three 𝓤 (made (table_params + 7) 0 x y)
 
   pub word_from_bits_settled : Settled 𝓤 word-from-bits.ended (word-from-bits.clauses 𝓛 mem run)
-  word_from_bits_settled κs a g h r s x y = two 𝓤 (written (table_params + 5) r s x y)
+  word_from_bits_settled κs a g h r s x y = two 𝓤 (written (1 + 5) r s x y)
 
   pub qv_word_from_bits_settled : Settled 𝓤 qv-word-from-bits.ended (qv-word-from-bits.clauses 𝓛 mem run)
   qv_word_from_bits_settled κs a g h r s x y = three 𝓤 (made (table_params + 2) 2 x y)

@@ -31,7 +31,7 @@ module _ {M : Type 1} {𝓤 : Ura M} (𝓛 : Logic 𝓤) (mem : Memory → SProp
 
   pub fill_facts_settled : Settled 𝓤 fill-facts.ended (fill-facts.clauses 𝓛 mem run)
   fill_facts_settled κs a g h r s x y =
-      two 𝓤 (λ p q. (done_settled r s (same p.0 q.0), skips 4 x y (λ i. (same p.1 q.1 i, tt))))
+      two 𝓤 (λ p q. (done_settled r s (same p.0 q.0), skips 2 x y (λ i. (same p.1 q.1 i, tt))))
 
   pub qv_fill_facts_settled : Settled 𝓤 qv-fill-facts.ended (qv-fill-facts.clauses 𝓛 mem run)
   qv_fill_facts_settled κs a g h r s x y = two 𝓤 (lent 4 x y)

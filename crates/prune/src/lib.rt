@@ -5,49 +5,38 @@
 #![tactic(auto)]
 
 ghost use Rattle.std.specs.Prelude.{◌≡◌};
-ghost use Rattle.meaning.specs.Tables.{table};
 ghost use Rattle.meaning.specs.Ladder.{record_of};
 ghost use Rattle.meaning.specs.CutCalls.{prune_call, prune_out};
 ghost use Rattle.answers.specs.Verdicts.{count_of};
 
-use answers::{Count, Done};
+use answers::Refusal;
+use tables::Table;
 
 // Cuts a record to a target: its bits stand at bit 0 of the output, zero bits follow them in their last byte, and later bytes stay. Answers
 // how many bits they are. Refuses with 1 to 5, with 7 if the record has not the target's shape, and with 9 if the output is too short.
 pub fn prune(
-    kinds: &[u8],
-    lefts: &[u16],
-    rights: &[u16],
-    groups: &[u8],
-    count: usize,
+    table: &Table<'_>,
     bytes: &[u8],
     offset: usize,
     node: usize,
     target: usize,
     out: &mut [u8],
-) -> Count
-    ensures result_value { count_of result ≡ prune_call (table kinds.now lefts.now rights.now groups.now count) (record_of bytes.now offset node) target out.old }
-    ensures out_after { out.new ≡ prune_out (table kinds.now lefts.now rights.now groups.now count) (record_of bytes.now offset node) target out.old }
+) -> Result<usize, Refusal>
+    ensures result_value { count_of result ≡ prune_call table.now (record_of bytes.now offset node) target out.old }
+    ensures out_after { out.new ≡ prune_out table.now (record_of bytes.now offset node) target out.old }
 {
-    let judged = checked_rungs::record_to(
-        kinds, lefts, rights, groups, count, bytes, offset, node, target,
-    );
-    if let Done::Refused(r) = judged {
-        return Count::Refused(r);
-    }
+    let checked = checked_rungs::record_to(table, bytes, offset, node, target)?;
     let first = offset / 8;
     let src = &bytes[first..];
     let at = offset % 8;
-    if !prune_judging::fits(kinds, lefts, rights, groups, count, src, at, node, target) {
-        return Count::Refused(answers::WRONG_SHAPE);
+    if !prune_judging::fits(&checked, src, at, node, target) {
+        return Err(Refusal::WrongShape);
     }
-    let width = checked_nodes::width_of(kinds, lefts, rights, groups, count, target);
+    let width = checked_nodes::width_of(&checked, target);
     if out.len() < bits::bytes_for(width) {
-        return Count::Refused(answers::NO_ROOM);
+        return Err(Refusal::NoRoom);
     }
-    prune_writing::write(
-        kinds, lefts, rights, groups, count, src, at, node, target, out, 0,
-    );
+    prune_writing::write(&checked, src, at, node, target, out, 0);
     bits_runs::finish(out, width);
-    Count::Is(width)
+    Ok(width)
 }

@@ -12,7 +12,7 @@ use mathlib.Core.Path.{◌≡◌, refl, ap, ap₂, ◌∙◌}
 use mathlib.Core.Bool.{Bool, true, false, ◌&&◌, false≢true}
 use mathlib.Core.List.{List, [], ◌∷◌, ◌++◌}
 use mathlib.Core.Option.{Option, none, some}
-use Prim.Native.Nat.{ℕ, zero, suc, ◌+◌, ◌-◌, ◌≤◌, ◌<◌}
+use Prim.Native.Nat.{ℕ, ◌+◌, ◌-◌, ◌≤◌, ◌<◌}
 use native.Mathlib.Nat.{add-zero}
 use native.Mathlib.Omega.{arith}
 use lib.ListN.{length, get_or, set, take, drop, length-replicate}
@@ -23,6 +23,8 @@ use Rattle.meaning.specs.Bits.{zeros}
 use Rattle.meaning.specs.Records.{tag, pad_left, pad_right, first_of, second_of}
 use Rattle.meaning.specs.Cuts.{rebuilt, joined, cut}
 use Rattle.meaning.specs.CutCalls.{is_cut, cut_bits}
+use Rattle.tables.specs.declared.Kind.{Kind}
+use Rattle.tables.specs.Kinds.{kind_no}
 use Rattle.bits.proofs.Runs.{get_d_run, take_run, drop_run}
 use Rattle.meaning.proofs.Pasted.{paste_append, set_as_paste}
 use Rattle.laws.proofs.CutSides.{side, within, wrapped}
@@ -37,15 +39,15 @@ pub cut_tag : (g : Bool) (a b c d : Ty) (v : List Bool) → same (sum a b) (sum 
 cut_tag true a b c d v e h = cut_sum_right a b c d v e h
 cut_tag false a b c d v e h = cut_sum_left a b c d v e h
 
--- Kinds: 0 unit, 1 sum, 2 product.
-pub cut_unlike : (k l : ℕ) (a b c d : Ty) (v : List Bool) → k ≤ 2 → l ≤ 2 → (k ≡ 0 → ⊥) → (k ≡ l → ⊥) → cut (node k a b) (node l c d) v ≡ none
-cut_unlike zero l a b c d v hk hl some-side differ = absurd (some-side refl)
-cut_unlike (suc zero) zero a b c d v hk hl some-side differ = cut_sum_of_unit a b v
-cut_unlike (suc zero) (suc zero) a b c d v hk hl some-side differ = absurd (differ refl)
-cut_unlike (suc zero) (suc (suc l)) a b c d v hk hl some-side differ = cut_sum_of_product a b c d v
-cut_unlike (suc (suc k)) zero a b c d v hk hl some-side differ = cut_product_of_unit a b v
-cut_unlike (suc (suc k)) (suc zero) a b c d v hk hl some-side differ = cut_product_of_sum a b c d v
-cut_unlike (suc (suc k)) (suc (suc l)) a b c d v hk hl some-side differ = absurd (differ (omega arith))
+pub cut_unlike : (k l : Kind) (a b c d : Ty) (v : List Bool) → (k ≡ Kind.Unit → ⊥) → (k ≡ l → ⊥)
+    → cut (node (kind_no k) a b) (node (kind_no l) c d) v ≡ none
+cut_unlike Kind.Unit l a b c d v some-side differ = absurd (some-side refl)
+cut_unlike Kind.Sum Kind.Unit a b c d v some-side differ = cut_sum_of_unit a b v
+cut_unlike Kind.Sum Kind.Sum a b c d v some-side differ = absurd (differ refl)
+cut_unlike Kind.Sum Kind.Product a b c d v some-side differ = cut_sum_of_product a b c d v
+cut_unlike Kind.Product Kind.Unit a b c d v some-side differ = cut_product_of_unit a b v
+cut_unlike Kind.Product Kind.Sum a b c d v some-side differ = cut_product_of_sum a b c d v
+cut_unlike Kind.Product Kind.Product a b c d v some-side differ = absurd (differ refl)
 
 module _ (bs : List Bool) (at : ℕ) where
   pub tag_run : (n : ℕ) → 0 < n → tag (take n (drop at bs)) ≡ get_or bs at false

@@ -1,7 +1,7 @@
 -- The sides of a sum and of a product that were read from a sound table, as a walk of a cut needs them.
 --
 --   side_bits before_some some_bits_lem a sum is its tag and padding, of which there is some, and a side
---   sum_bits                    a node of kind 1 has at least one bit
+--   sum_bits                    a sum has at least one bit
 --   Under under                 the side of a sum under a tag: its place, its width, its number
 --   Parts parts                 the sides of a product, one after the other
 -- Assumes nothing.
@@ -12,6 +12,8 @@ use native.Mathlib.Omega.{arith}
 use Rattle.meaning.specs.Types.{Ty, sum, prod, bits}
 use Rattle.meaning.specs.Tables.{Table}
 use Rattle.meaning.specs.Ladder.{type_at}
+use Rattle.tables.specs.declared.Kind.{Kind}
+use Rattle.tables.specs.Kinds.{kind_no}
 use Rattle.nodes.specs.Reading.{Reads, side_of}
 use Rattle.nodes.specs.declared.Node.{Node}
 use Rattle.checked.specs.Passed.{Named}
@@ -62,11 +64,11 @@ pub record Parts (t : Table) (n : ℕ) (r : Node) : Type 0 where
   pub second_falls : r.right < n
 
 module _ (t : Table) (n : ℕ) (r : Node) (e : Reads t n r) (h : Named t n) where
-  pub under : (g : Bool) (p : Payload) → r.kind ≡ 1 → UnderTag r g p → Under t n r g p
+  pub under : (g : Bool) (p : Payload) → r.kind ≡ Kind.Sum → UnderTag r g p → Under t n r g p
   under g p one u =
       let a = type_at t r.left in
       let b = type_at t r.right in
-      let read = side_read t n r e h (omega arith) g in
+      let read = side_read t n r e h (omega (arith, ap kind_no one)) g in
       let tree : type_at t n ≡ sum a b = sum_tree t n r e one in
       let s : side g a b ≡ type_at t p.node = side_tree t g r ∙ ap (type_at t) (sym u.node_is) in
       let whole : bits (type_at t n) ≡ bits (sum a b) = ap bits tree in
@@ -85,16 +87,16 @@ module _ (t : Table) (n : ℕ) (r : Node) (e : Reads t n r) (h : Named t n) wher
       }
 
   -- A sum has a first bit.
-  pub sum_bits : r.kind ≡ 1 → 0 < bits (type_at t n)
+  pub sum_bits : r.kind ≡ Kind.Sum → 0 < bits (type_at t n)
   sum_bits one = subst (λ (a : Ty). 0 < bits a) (sym (sum_tree t n r e one)) (some_bits_lem (type_at t r.left) (type_at t r.right))
 
-  pub parts : r.kind ≡ 2 → Parts t n r
+  pub parts : r.kind ≡ Kind.Product → Parts t n r
   unfolding bits
   parts two =
       let a = type_at t r.left in
       let b = type_at t r.right in
-      let first = side_read t n r e h (omega arith) false in
-      let second = side_read t n r e h (omega arith) true in
+      let first = side_read t n r e h (omega (arith, ap kind_no two)) false in
+      let second = side_read t n r e h (omega (arith, ap kind_no two)) true in
       let tree : type_at t n ≡ prod a b = prod_tree t n r e two in
       let whole : bits (type_at t n) ≡ bits (prod a b) = ap bits tree in
       let w : r.left_width ≡ bits a = first.wide in

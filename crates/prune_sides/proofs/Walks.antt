@@ -4,7 +4,7 @@
 --   record-bits cut-bits        the record has as many bits as its type; an accepted cut has as many as the target
 --   Step step_of                a walk whose record's node and whose target were read
 --   equal_bits equal_width      nodes of one class are of one width, as it was read and as it is
---   unit_width                  a target of kind 0 has no bits
+--   unit_width                  a unit target has no bits
 --   step_equal step_unit step_unlike step_like      the cut where a rule needs no further walk
 --   SumStep sum_step_of two_sums step_sum accepts_sum       the cut of a sum, by the cut of its payload
 --   named_sum run_sum falls_sum         the walk to the payload
@@ -13,15 +13,12 @@
 --   named_first run_first falls_first named_second run_second falls_second      the walks to the parts
 --   first_product spans_product         where the parts lie in the target
 -- Assumes nothing.
-use mathlib.Core.Path.{◌≡◌, ap, ap₂, sym, ◌∙◌, subst}
+use mathlib.Core.Path.{◌≡◌, refl, ap, ap₂, sym, ◌∙◌, subst}
 use mathlib.Core.Bool.{Bool, true, false, ◌&&◌, false≢true}
 use mathlib.Core.List.{List, [], ◌∷◌, ◌++◌}
-use mathlib.Core.Logic.{⊎_elim}
 use mathlib.Core.Option.{none, some}
 use Prim.Native.Nat.{ℕ, ◌+◌, ◌-◌, ◌≤◌, ◌<◌}
 use native.Mathlib.Omega.{arith}
-use lib.Dec.{eqb}
-use borrow.Author.Tests.{eqb-true, eqb-false}
 use lib.ListN.{length, get_or, take, drop}
 use Rattle.meaning.specs.Types.{Ty, sum, prod, same, bits}
 use Rattle.meaning.specs.Tables.{Table}
@@ -30,13 +27,14 @@ use Rattle.meaning.specs.Bits.{bits_of, zeros}
 use Rattle.meaning.specs.Ladder.{record_of, type_at, record_bits}
 use Rattle.meaning.specs.Cuts.{rebuilt, joined, cut}
 use Rattle.meaning.specs.CutCalls.{is_cut, cut_bits, cut_of}
-use Rattle.meaning.proofs.Choices.{either}
 use Rattle.meaning.proofs.Records.{bits_unit}
 use Rattle.nodes.specs.Reading.{Reads}
 use Rattle.nodes.specs.declared.Node.{Node}
 use Rattle.bits.specs.Runs.{Run}
 use Rattle.bits.proofs.Lent.{record_length}
 use Rattle.checked.specs.Passed.{Named}
+use Rattle.tables.specs.declared.Kind.{Kind}
+use Rattle.tables.specs.Kinds.{kind_no}
 use Rattle.checked.proofs.Lent.{part_run}
 use Rattle.checked.proofs.Nodes.{own_width, side_read, same_class, other_class}
 use Rattle.laws.proofs.CutSides.{side, wrapped}
@@ -78,6 +76,18 @@ module _ (t : Table) (src : List ℕ) (at given : ℕ) (r : Run src at (bits (ty
 
 -- ---- Where no further walk is needed
 
+-- Kinds that cannot differ are equal.
+kinds_equal : (k l : Kind) → ((k ≡ l → ⊥) → ⊥) → k ≡ l
+kinds_equal Kind.Unit Kind.Unit f = refl
+kinds_equal Kind.Unit Kind.Sum f = absurd (f (λ e. omega (arith, ap kind_no e)))
+kinds_equal Kind.Unit Kind.Product f = absurd (f (λ e. omega (arith, ap kind_no e)))
+kinds_equal Kind.Sum Kind.Unit f = absurd (f (λ e. omega (arith, ap kind_no e)))
+kinds_equal Kind.Sum Kind.Sum f = refl
+kinds_equal Kind.Sum Kind.Product f = absurd (f (λ e. omega (arith, ap kind_no e)))
+kinds_equal Kind.Product Kind.Unit f = absurd (f (λ e. omega (arith, ap kind_no e)))
+kinds_equal Kind.Product Kind.Sum f = absurd (f (λ e. omega (arith, ap kind_no e)))
+kinds_equal Kind.Product Kind.Product f = refl
+
 module _ {t : Table} {src : List ℕ} {at given target : ℕ} {given-node target-node : Node} (s : Step t src at given target given-node target-node) where
   -- Equal class is equal type.
   equal_trees : target-node.class ≡ given-node.class → type_at t target ≡ type_at t given
@@ -94,30 +104,28 @@ module _ {t : Table} {src : List ℕ} {at given target : ℕ} {given-node target
   pub equal_width : target-node.class ≡ given-node.class → target-node.width ≡ bits (type_at t given)
   equal_width e = own_width t target target-node s.target_read s.target_named ∙ ap bits (equal_trees e)
 
-  pub step_unit : target-node.kind ≡ 0 → cut_of t (record_of src at given) target ≡ some []
+  pub step_unit : target-node.kind ≡ Kind.Unit → cut_of t (record_of src at given) target ≡ some []
   step_unit e =
       let v = record_bits t (record_of src at given) in
       ap (λ (a : Ty). cut a (type_at t given) v)
-      (s.target_read.tree ∙ ap (λ (k : ℕ). tables.node k (type_at t target-node.left) (type_at t target-node.right)) e)
+      (s.target_read.tree ∙ ap (λ (k : Kind). tables.node (kind_no k) (type_at t target-node.left) (type_at t target-node.right)) e)
       ∙ cut_unit (type_at t given) v (record-bits t src at given s.run)
 
-  pub unit_width : target-node.kind ≡ 0 → bits (type_at t target) ≡ 0
+  pub unit_width : target-node.kind ≡ Kind.Unit → bits (type_at t target) ≡ 0
   unit_width e =
-      ap bits (s.target_read.tree ∙ ap (λ (k : ℕ). tables.node k (type_at t target-node.left) (type_at t target-node.right)) e) ∙ bits_unit
+      ap bits (s.target_read.tree ∙ ap (λ (k : Kind). tables.node (kind_no k) (type_at t target-node.left) (type_at t target-node.right)) e) ∙ bits_unit
 
-  pub step_unlike : (target-node.kind ≡ 0 → ⊥) → (target-node.kind ≡ given-node.kind → ⊥) → cut_of t (record_of src at given) target ≡ none
-  step_unlike some-side differ =
+  -- A target with sides cuts no record of another kind.
+  pub step_unlike : {k : Kind} → target-node.kind ≡ k → 1 ≤ kind_no k → (given-node.kind ≡ k → ⊥) → cut_of t (record_of src at given) target ≡ none
+  step_unlike e inner other =
       let v = record_bits t (record_of src at given) in
       ap₂ (λ (a b : Ty). cut a b v) s.target_read.tree s.given_read.tree
       ∙ cut_unlike target-node.kind given-node.kind (type_at t target-node.left) (type_at t target-node.right)
-      (type_at t given-node.left) (type_at t given-node.right) v s.target_read.kind_low s.given_read.kind_low some-side differ
+      (type_at t given-node.left) (type_at t given-node.right) v (λ u. omega (arith, ap kind_no (sym e ∙ u))) (λ d. other (sym d ∙ e))
 
   -- Where a target with sides is accepted, the record's type is of its kind.
-  pub step_like : (target-node.kind ≡ 0 → ⊥) → cuts t src at given target ≡ true → target-node.kind ≡ given-node.kind
-  step_like some-side h =
-      ⊎_elim (λ e. eqb-true target-node.kind given-node.kind e)
-      (λ n. absurd (false≢true (sym (ap is_cut (step_unlike some-side (eqb-false target-node.kind given-node.kind n))) ∙ h)))
-      (either (eqb target-node.kind given-node.kind))
+  pub step_like : {k : Kind} → target-node.kind ≡ k → 1 ≤ kind_no k → cuts t src at given target ≡ true → given-node.kind ≡ k
+  step_like {k} e inner h = kinds_equal given-node.kind k (λ other. false≢true (sym (ap is_cut (step_unlike e inner other)) ∙ h))
 
   -- Other classes are other types.
   other_trees : (x y : Ty) → type_at t target ≡ x → type_at t given ≡ y → (target-node.class ≡ given-node.class → ⊥) → same x y ≡ false
@@ -129,28 +137,28 @@ module _ {t : Table} {src : List ℕ} {at given target : ℕ} {given-node target
 pub record SumStep (t : Table) (src : List ℕ) (at given target : ℕ) (given-node target-node : Node) (g : Bool) (p q : Payload) : Type 0 where
   pub step : Step t src at given target given-node target-node
   pub differ : target-node.class ≡ given-node.class → ⊥
-  pub target_sum : target-node.kind ≡ 1
-  pub given_sum : given-node.kind ≡ 1
+  pub target_sum : target-node.kind ≡ Kind.Sum
+  pub given_sum : given-node.kind ≡ Kind.Sum
   pub tag_is : g ≡ get_or (bits_of src) at false
   pub from : UnderTag given-node g p
   pub to : UnderTag target-node g q
 
 pub sum_step_of : {t : Table} {src : List ℕ} {at given target : ℕ} {given-node target-node : Node} {s : Taken}
-    → Step t src at given target given-node target-node → (target-node.class ≡ given-node.class → ⊥) → target-node.kind ≡ 1
-    → target-node.kind ≡ given-node.kind → TakenSide src at given-node target-node s
+    → Step t src at given target given-node target-node → (target-node.class ≡ given-node.class → ⊥) → target-node.kind ≡ Kind.Sum
+    → given-node.kind ≡ Kind.Sum → TakenSide src at given-node target-node s
     → SumStep t src at given target given-node target-node s.tag s.given s.target
 sum_step_of p n one like taken =
-    record { step = p; differ = n; target_sum = one; given_sum = sym like ∙ one; tag_is = taken.tag_is; from = taken.from; to = taken.to }
+    record { step = p; differ = n; target_sum = one; given_sum = like; tag_is = taken.tag_is; from = taken.from; to = taken.to }
 
 -- Two nodes that were read and are sums.
 pub two_sums : {t : Table} {src : List ℕ} {at given target : ℕ} {given-node target-node : Node} → Step t src at given target given-node target-node
-    → target-node.kind ≡ 1 → given-node.kind ≡ 1 → Sums src at given-node target-node
+    → target-node.kind ≡ Kind.Sum → given-node.kind ≡ Kind.Sum → Sums src at given-node target-node
 two_sums {t} {src} {at} {given} {target} {given-node} {target-node} s e f =
     let n = sum_bits t given given-node s.given_read s.given_named f in
     record {
       tagged = omega (arith, s.run.inside);
-      given_wide = λ g. (side_read t given given-node s.given_read s.given_named (omega arith) g).fits;
-      target_wide = λ g. (side_read t target target-node s.target_read s.target_named (omega arith) g).fits;
+      given_wide = λ g. (side_read t given given-node s.given_read s.given_named (omega (arith, ap kind_no f)) g).fits;
+      target_wide = λ g. (side_read t target target-node s.target_read s.target_named (omega (arith, ap kind_no e)) g).fits;
     }
 
 module _ {t : Table} {src : List ℕ} {at given target : ℕ} {given-node target-node : Node} {g : Bool} {p q : Payload}
@@ -213,17 +221,13 @@ module _ {t : Table} {src : List ℕ} {at given target : ℕ} {given-node target
 pub record ProductStep (t : Table) (src : List ℕ) (at given target : ℕ) (given-node target-node : Node) : Type 0 where
   pub step : Step t src at given target given-node target-node
   pub differ : target-node.class ≡ given-node.class → ⊥
-  pub target_product : target-node.kind ≡ 2
-  pub given_product : given-node.kind ≡ 2
+  pub target_product : target-node.kind ≡ Kind.Product
+  pub given_product : given-node.kind ≡ Kind.Product
 
--- A target with sides that is no sum.
 pub product_step_of : {t : Table} {src : List ℕ} {at given target : ℕ} {given-node target-node : Node}
-    → Step t src at given target given-node target-node → (target-node.class ≡ given-node.class → ⊥) → (target-node.kind ≡ 0 → ⊥)
-    → (target-node.kind ≡ 1 → ⊥) → target-node.kind ≡ given-node.kind → ProductStep t src at given target given-node target-node
-product_step_of {target-node = m} p n no_unit no_sum like =
-    let low = p.target_read.kind_low in
-    let two : m.kind ≡ 2 = omega arith in
-    record { step = p; differ = n; target_product = two; given_product = sym like ∙ two }
+    → Step t src at given target given-node target-node → (target-node.class ≡ given-node.class → ⊥) → target-node.kind ≡ Kind.Product
+    → given-node.kind ≡ Kind.Product → ProductStep t src at given target given-node target-node
+product_step_of p n two like = record { step = p; differ = n; target_product = two; given_product = like }
 
 module _ {t : Table} {src : List ℕ} {at given target : ℕ} {given-node target-node : Node} (s : ProductStep t src at given target given-node target-node) where
   from_parts : Parts t given given-node

@@ -19,11 +19,10 @@ fn under_tag(n: Node, tag: bool) -> Payload
     requires { (side_of tag n).width ≤ n.width }
     ensures { UnderTag n tag result }
 {
-    let width = n.width;
-    let side = nodes::side_of(n, tag);
+    let side = n.side(tag);
     Payload {
         node: side.node,
-        before: (width - side.width) as usize,
+        before: (n.width - side.width) as usize,
     }
 }
 
@@ -41,7 +40,7 @@ pub fn taken_side(src: &[u8], at: usize, given: Node, target: Node) -> Taken
 {
     let tag = bits::bit_at(src, at);
     Taken {
-        tag: tag,
+        tag,
         given: under_tag(given, tag),
         target: under_tag(target, tag),
     }

@@ -1,5 +1,6 @@
 -- What a walk has written: an output whose bits are those of the cut, from bit `to` on.
 --
+--   at_sum at_product           a walk that may cut, at a sum and at a product
 --   Written                     the claim: the cut of a record was pasted over the bits of the output
 --   written_equal written_unit written_sum written_product      one for each rule
 --   lies_sum lies_first lies_second     where the payload and the parts have their place in the output
@@ -18,15 +19,34 @@ use Rattle.meaning.specs.Bits.{bits_of, zeros}
 use Rattle.meaning.specs.Ladder.{record_of, type_at, record_bits}
 use Rattle.meaning.specs.CutCalls.{cut_bits, cut_of}
 use Rattle.meaning.proofs.Tests.{and_left, and_right}
+use Rattle.tables.specs.declared.Kind.{Kind}
 use Rattle.nodes.specs.declared.Node.{Node}
+use Rattle.nodes.specs.Reading.{Reads}
 use Rattle.bits.proofs.OfBytes.{length_bits_of}
 use Rattle.meaning.proofs.Pasted.{paste_take, paste_append}
 use Rattle.laws.proofs.CutSides.{wrapped}
 use Rattle.bits.specs.Runs.{Run}
+use Rattle.checked.specs.Passed.{Named}
+use Rattle.prune_sides.specs.Sides.{TakenSide}
 use Rattle.prune_sides.specs.declared.Payload.{Payload}
+use Rattle.prune_sides.specs.declared.Taken.{Taken}
 use Rattle.prune_sides.proofs.CutSteps.{cut_bits_rebuilt, cut_bits_joined, pasted_tag}
-use Rattle.prune_sides.proofs.Walks.{Step, SumStep, ProductStep, cuts, cut-bits, step_equal, equal_width, equal_bits, unit_width}
+use Rattle.prune_sides.proofs.Walks.{Step, step_of, step_like, SumStep, sum_step_of, ProductStep, product_step_of, cuts, cut-bits, step_equal, equal_width, equal_bits, unit_width}
 use Rattle.prune_sides.proofs.Walks.{step_sum, accepts_sum, spans_sum, before_sum, wrapped_sum, step_product, accepts_product, first_product, spans_product, run_first}
+
+-- A walk that may cut, at a sum and at a product: the record's type is of the target's kind.
+module _ {t : Table} {src : List ℕ} {at given target : ℕ} {given-node target-node : Node} (from : Named t given) (to : Named t target)
+    (run : Run src at (bits (type_at t given))) (given-read : Reads t given given-node) (target-read : Reads t target target-node)
+    (cutting : cuts t src at given target ≡ true) (differ : target-node.class ≡ given-node.class → ⊥) where
+  abbrev step : Step t src at given target given-node target-node
+  step = step_of from to run given-read target-read
+
+  pub at_sum : {s : Taken} → target-node.kind ≡ Kind.Sum → TakenSide src at given-node target-node s
+      → SumStep t src at given target given-node target-node s.tag s.given s.target
+  at_sum one taken = sum_step_of step differ one (step_like step one (omega arith) cutting) taken
+
+  pub at_product : target-node.kind ≡ Kind.Product → ProductStep t src at given target given-node target-node
+  at_product two = product_step_of step differ two (step_like step two (omega arith) cutting)
 
 -- The output `out` became `new`.
 abbrev pub Written : Table → List ℕ → ℕ → ℕ → ℕ → List ℕ → ℕ → List ℕ → Type 0
@@ -46,7 +66,7 @@ module _ {t : Table} {src : List ℕ} {at given target : ℕ} {given-node target
       ∙ sym (paste_take (bits_of out) to (drop at (bits_of src)) (bits (type_at t given)))
       ∙ ap₂ (paste (bits_of out) to) (sym (ap cut_bits (step_equal s e))) n
 
-  pub written_unit : target-node.kind ≡ 0 → Written t src at given target out to out
+  pub written_unit : target-node.kind ≡ Kind.Unit → Written t src at given target out to out
   written_unit e =
       paste-zero (bits_of out) to (cut_bits (cut_of t (record_of src at given) target))
       ∙ ap (paste (bits_of out) to (cut_bits (cut_of t (record_of src at given) target))) (sym (unit_width s e))

@@ -5,20 +5,18 @@
 ghost use Rattle.std.specs.Prelude.{◌≡◌, true};
 ghost use Rattle.std.proofs.Math.Seq.{paste};
 ghost use Rattle.meaning.specs.Types.{bits};
-ghost use Rattle.meaning.specs.Tables.{table};
 ghost use Rattle.meaning.specs.Bits.{bits_of};
 ghost use Rattle.meaning.specs.Ladder.{record_of, type_at};
 ghost use Rattle.meaning.specs.CutCalls.{is_cut, cut_bits, cut_of};
 ghost use Rattle.bits.specs.Runs.{Run};
 ghost use Rattle.checked.specs.Passed.{Named};
 
+use nodes::Checked;
+use tables::Kind;
+
 // Writes the record of the node `given` at bit `at`, cut to the node `target`, from bit `to` of the output on.
 pub fn write(
-    kinds: &[u8],
-    lefts: &[u16],
-    rights: &[u16],
-    groups: &[u8],
-    count: usize,
+    table: &Checked<'_>,
     src: &[u8],
     at: usize,
     given: usize,
@@ -26,69 +24,49 @@ pub fn write(
     out: &mut [u8],
     to: usize,
 )
-    requires named { Named (table kinds.now lefts.now rights.now groups.now count) given }
-    requires named_2 { Named (table kinds.now lefts.now rights.now groups.now count) target }
-    requires run { Run src.now at (bits (type_at (table kinds.now lefts.now rights.now groups.now count) given)) }
-    requires target_value { is_cut (cut_of (table kinds.now lefts.now rights.now groups.now count) (record_of src.now at given) target) ≡ true }
-    requires run_2 { Run out.old to (bits (type_at (table kinds.now lefts.now rights.now groups.now count) target)) }
-    ensures { bits_of out.new ≡ paste (bits_of out.old) to (cut_bits (cut_of (table kinds.now lefts.now rights.now groups.now count) (record_of src.now at given) target)) (bits (type_at (table kinds.now lefts.now rights.now groups.now count) target)) }
+    requires named { Named table.now given }
+    requires named_2 { Named table.now target }
+    requires run { Run src.now at (bits (type_at table.now given)) }
+    requires target_value { is_cut (cut_of table.now (record_of src.now at given) target) ≡ true }
+    requires run_2 { Run out.old to (bits (type_at table.now target)) }
+    ensures { bits_of out.new ≡ paste (bits_of out.old) to (cut_bits (cut_of table.now (record_of src.now at given) target)) (bits (type_at table.now target)) }
 {
-    let given_node = nodes::node_at(kinds, lefts, rights, groups, count, given);
-    let target_node = nodes::node_at(kinds, lefts, rights, groups, count, target);
+    let given_node = table.node(given);
+    let target_node = table.node(target);
     let target_class = target_node.class;
     let given_class = given_node.class;
     if target_class == given_class {
         bits_runs::copy_bits(src, at, out, to, target_node.width as usize);
         return;
     }
-    let target_kind = target_node.kind;
-    if target_kind == 0 {
-        return;
+    match target_node.kind {
+        Kind::Unit => {}
+        Kind::Sum => {
+            let side = prune_sides::taken_side(src, at, given_node, target_node);
+            let before = side.target.before;
+            bits::put_bit(out, to, side.tag);
+            bits_runs::clear_bits(out, to + 1, before - 1);
+            write(
+                table,
+                src,
+                at + side.given.before,
+                side.given.node,
+                side.target.node,
+                out,
+                to + before,
+            );
+        }
+        Kind::Product => {
+            write(table, src, at, given_node.left, target_node.left, out, to);
+            write(
+                table,
+                src,
+                at + given_node.left_width as usize,
+                given_node.right,
+                target_node.right,
+                out,
+                to + target_node.left_width as usize,
+            );
+        }
     }
-    if target_kind == 1 {
-        let side = prune_sides::taken_side(src, at, given_node, target_node);
-        let before = side.target.before;
-        bits::put_bit(out, to, side.tag);
-        bits_runs::clear_bits(out, to + 1, before - 1);
-        write(
-            kinds,
-            lefts,
-            rights,
-            groups,
-            count,
-            src,
-            at + side.given.before,
-            side.given.node,
-            side.target.node,
-            out,
-            to + before,
-        );
-        return;
-    }
-    write(
-        kinds,
-        lefts,
-        rights,
-        groups,
-        count,
-        src,
-        at,
-        given_node.left,
-        target_node.left,
-        out,
-        to,
-    );
-    write(
-        kinds,
-        lefts,
-        rights,
-        groups,
-        count,
-        src,
-        at + given_node.left_width as usize,
-        given_node.right,
-        target_node.right,
-        out,
-        to + target_node.left_width as usize,
-    );
 }

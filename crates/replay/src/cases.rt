@@ -1,80 +1,38 @@
 // One case: its call is made, and all that it leaves is compared with what the case expects.
-ghost use Rattle.std.specs.Prelude.{◌≤◌, length};
-ghost use Rattle.lists.specs.Parts.{Within, Lent};
+use lists::{Case, Numbers, same_bytes};
+use replay_outputs::{buffers, codecs, constructors, cuts, joins, word_calls};
+use replay_parts::Table;
+use replay_values::{comparing, lengths, table_calls, type_calls, views, word_type_calls};
+use samples_names::Call;
 
-use lists::{Expected, MOST_GROUPS_BYTES, MOST_VALUES, Request, expected_at, past, request_at};
-use replay_outputs::outputs_agree;
-use replay_parts::BEFORE;
-use replay_values::{tables_agree, values_agree};
+// How many bytes a case may lend for an output.
+const MOST_ROOM: usize = 512;
 
-// A case that was replayed: whether all is as expected, and where the next case stands; past the end if the list is cut in the case.
-#[derive(Clone, Copy)]
-pub(crate) struct Replayed {
-    pub(crate) agrees: bool,
-    pub(crate) next: usize,
-}
-
-// Whether the call of a case is as expected: one that makes or checks a table, one that writes no record, or one that writes an output.
-fn call_agrees(
-    list: &[u8],
-    call: usize,
-    kinds: &[u8; 1024],
-    lefts: &[u16; 1024],
-    rights: &[u16; 1024],
-    groups: &[u8; MOST_GROUPS_BYTES],
-    count: usize,
-    q: Request,
-    e: Expected,
-    wanted: &[u64; MOST_VALUES],
-) -> bool
-    requires lent { Lent (length list.now) q }
-    requires within { Within (length list.now) e.out }
-    requires room_bound { q.room ≤ 512 }
-{
-    if call < 3 {
-        return tables_agree(
-            list, call, kinds, lefts, rights, groups, count, q, e, wanted,
-        );
-    }
-    if call < 23 {
-        return values_agree(
-            list, call, kinds, lefts, rights, groups, count, q, e, wanted,
-        );
-    }
-    outputs_agree(
-        list, call, kinds, lefts, rights, groups, count, q, e, wanted,
-    )
-}
-
-// Replays the case at a position of the list, after the byte of its call.
-pub(crate) fn replay_case(
-    list: &[u8],
-    at: usize,
-    call: usize,
-    kinds: &[u8; 1024],
-    lefts: &[u16; 1024],
-    rights: &[u16; 1024],
-    groups: &[u8; MOST_GROUPS_BYTES],
-    count: usize,
-) -> Replayed {
-    let q = request_at(list, at);
-    let mut wanted = [BEFORE; MOST_VALUES];
-    let e = expected_at(list, q.next, &mut wanted);
-    let next = e.next;
-    if next > list.len() {
-        return Replayed {
-            agrees: false,
-            next,
-        };
-    }
-    if q.room > 512 {
-        return Replayed {
-            agrees: false,
-            next: past(list),
-        };
-    }
-    let agrees = call_agrees(
-        list, call, kinds, lefts, rights, groups, count, q, e, &wanted,
-    );
-    Replayed { agrees, next }
+// Whether a call leaves what its case expects. Nothing where the case lends more room than there is, which no list does.
+pub(crate) fn replay_case(call: Call, table: &Table, case: &Case) -> Option<bool> {
+    let q = &case.request;
+    let mut numbers = Numbers::lent(q.position);
+    let mut buffer = [0xEE; MOST_ROOM];
+    let out = buffer.get_mut(..q.room)?;
+    let mut written = None;
+    let code = match call {
+        Call::Tables(call) => table_calls::ask(call, table, q, &mut numbers, &mut written),
+        Call::Types(call) => type_calls::ask(call, table, q, &mut numbers),
+        Call::WordTypes(call) => word_type_calls::ask(call, table, q, &mut numbers),
+        Call::Views(call) => views::ask(call, table, q, &mut numbers),
+        Call::Comparing(call) => comparing::ask(call, table, q, &mut numbers),
+        Call::Lengths(call) => lengths::ask(call, table, q, &mut numbers),
+        Call::Constructors(call) => constructors::ask(call, table, q, &mut numbers, out),
+        Call::Words(call) => word_calls::ask(call, table, q, &mut numbers, out),
+        Call::Joins(call) => joins::ask(call, table, q, &mut numbers, out),
+        Call::Buffers(call) => buffers::ask(call, table, q, &mut numbers, out),
+        Call::Codecs(call) => codecs::ask(call, table, q, &mut numbers, out),
+        Call::Cuts(call) => cuts::ask(call, table, q, &mut numbers, out),
+    };
+    let expected = &case.expected;
+    let same_output = match written {
+        Some(table) => table.has_nodes(expected.out),
+        None => same_bytes(out, expected.out),
+    };
+    Some(code == expected.code && numbers == expected.numbers && same_output)
 }

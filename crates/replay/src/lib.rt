@@ -6,4 +6,4 @@
 mod cases;
 mod steps;
 
-pub use steps::take_step;
+pub use steps::{Entry, Step, take_step};

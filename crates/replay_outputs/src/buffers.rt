@@ -1,50 +1,27 @@
-// Buffers and the hash state, calls 43 and 44 of include/CALLS.md.
-ghost use Rattle.std.specs.Prelude.{length};
-ghost use Rattle.lists.specs.Parts.{Lent};
+// Buffers and the hash state.
+use lists::{Numbers, Request};
+use replay_parts::Table;
+use samples_names::BuffersCall;
 
-use lists::Request;
-use replay_parts::run_bytes;
-
-// One of the two; any other number is the last of them.
-pub(crate) fn buffers(
-    list: &[u8],
-    call: usize,
-    kinds: &[u8],
-    lefts: &[u16],
-    rights: &[u16],
-    groups: &[u8],
-    count: usize,
-    q: Request,
-    value: &mut u64,
+// Makes one of these calls, and answers its result.
+pub fn ask(
+    call: BuffersCall,
+    table: &Table,
+    q: &Request,
+    numbers: &mut Numbers,
     out: &mut [u8],
-) -> u64
-    requires { Lent (length list.now) q }
-{
+) -> u64 {
+    let (kinds, lefts, rights, groups, count) = table.lent();
+    let value = &mut numbers.value;
     match call {
-        43 => exports::qv_buffer8_two_n_plus_one(
-            kinds,
-            lefts,
-            rights,
-            groups,
-            count,
-            q.n as usize,
-            run_bytes(list, q.data),
-            q.node,
-            value,
-            out,
-        ),
-        _ => exports::qv_ctx8(
-            kinds,
-            lefts,
-            rights,
-            groups,
-            count,
-            run_bytes(list, q.data),
-            q.n,
-            run_bytes(list, q.buffer),
-            q.node,
-            value,
-            out,
+        BuffersCall::Buffer8TwoNPlusOne => {
+            let n = q.n as usize;
+            exports::qv_buffer8_two_n_plus_one(
+                kinds, lefts, rights, groups, count, n, q.data, q.node, value, out,
+            )
+        }
+        BuffersCall::Ctx8 => exports::qv_ctx8(
+            kinds, lefts, rights, groups, count, q.data, q.n, q.buffer, q.node, value, out,
         ),
     }
 }

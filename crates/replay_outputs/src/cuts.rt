@@ -1,35 +1,22 @@
-// The cut, call 49 of include/CALLS.md.
-ghost use Rattle.std.specs.Prelude.{length};
-ghost use Rattle.lists.specs.Parts.{Lent};
+// The cut, of the first record.
+use lists::{Numbers, Request};
+use replay_parts::Table;
+use samples_names::CutsCall;
 
-use lists::Request;
-use replay_parts::run_bytes;
-
-// The cut of the first record.
-pub(crate) fn cuts(
-    list: &[u8],
-    kinds: &[u8],
-    lefts: &[u16],
-    rights: &[u16],
-    groups: &[u8],
-    count: usize,
-    q: Request,
-    value: &mut u64,
+// Makes one of these calls, and answers its result.
+pub fn ask(
+    call: CutsCall,
+    table: &Table,
+    q: &Request,
+    numbers: &mut Numbers,
     out: &mut [u8],
-) -> u64
-    requires { Lent (length list.now) q }
-{
-    exports::qv_prune(
-        kinds,
-        lefts,
-        rights,
-        groups,
-        count,
-        run_bytes(list, q.a),
-        q.a_offset,
-        q.a_node,
-        q.node,
-        value,
-        out,
-    )
+) -> u64 {
+    let (kinds, lefts, rights, groups, count) = table.lent();
+    let a = q.a;
+    let value = &mut numbers.value;
+    match call {
+        CutsCall::Prune => exports::qv_prune(
+            kinds, lefts, rights, groups, count, a.bytes, a.offset, a.node, q.node, value, out,
+        ),
+    }
 }

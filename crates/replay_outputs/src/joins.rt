@@ -1,55 +1,33 @@
-// Words from words and from a stream, calls 41 and 42 of include/CALLS.md.
-ghost use Rattle.std.specs.Prelude.{length};
-ghost use Rattle.lists.specs.Parts.{Lent};
+// Words from words and from a stream.
+use lists::{Numbers, Request};
+use replay_parts::Table;
+use samples_names::JoinsCall;
 
-use lists::Request;
-use replay_parts::run_bytes;
-
-// One of the two; any other number is the last of them.
-pub(crate) fn joins(
-    list: &[u8],
-    call: usize,
-    kinds: &[u8],
-    lefts: &[u16],
-    rights: &[u16],
-    groups: &[u8],
-    count: usize,
-    q: Request,
-    position: &mut u64,
-    value: &mut u64,
+// Makes one of these calls, and answers its result.
+pub fn ask(
+    call: JoinsCall,
+    table: &Table,
+    q: &Request,
+    numbers: &mut Numbers,
     out: &mut [u8],
-) -> u64
-    requires { Lent (length list.now) q }
-{
+) -> u64 {
+    let (kinds, lefts, rights, groups, count) = table.lent();
+    let (a, b) = (q.a, q.b);
+    let Numbers {
+        position,
+        value,
+        ..
+    } = numbers;
     match call {
-        41 => exports::qv_word_product(
-            kinds,
-            lefts,
-            rights,
-            groups,
-            count,
-            run_bytes(list, q.a),
-            q.a_offset,
-            q.a_node,
-            run_bytes(list, q.b),
-            q.b_offset,
-            q.b_node,
-            q.node,
-            value,
-            out,
+        JoinsCall::WordProduct => exports::qv_word_product(
+            kinds, lefts, rights, groups, count, a.bytes, a.offset, a.node, b.bytes, b.offset,
+            b.node, q.node, value, out,
         ),
-        _ => exports::qv_word_from_bits(
-            kinds,
-            lefts,
-            rights,
-            groups,
-            count,
-            run_bytes(list, q.stream),
-            q.until,
-            position,
-            q.n as usize,
-            q.node,
-            out,
-        ),
+        JoinsCall::WordFromBits => {
+            let n = q.n as usize;
+            exports::qv_word_from_bits(
+                kinds, lefts, rights, groups, count, q.stream, q.until, position, n, q.node, out,
+            )
+        }
     }
 }

@@ -1,80 +1,113 @@
-// The parts of a case: the bytes that its call is handed, and whether what the call has left is what the case expects.
+// The table that a call is handed, as C hands it over: columns and groups that are lent, and how many nodes they have.
 #![tactic(auto)]
 
-mod columns;
+ghost use Rattle.std.specs.Prelude.{◌≡◌, ◌*◌, length, replicate};
 
-ghost use Rattle.std.specs.Prelude.{◌≤◌, length};
-ghost use Rattle.lists.specs.Parts.{Within};
+// How many nodes there is room for.
+pub const MOST_NODES: usize = 1024;
 
-pub use columns::same_nodes;
-use lists::{Expected, MOST_VALUES, Run, same_bytes};
+// How many bytes a node's group of facts has. Said here and not taken from the crate groups: a replay is to be independent of what it tries.
+pub const GROUP_BYTES: usize = 27;
 
-// What stands in lent numbers before a call: 0xEE in every byte, as in lent bytes.
-pub const BEFORE: u64 = 0xEEEEEEEEEEEEEEEE;
+// How many bytes a case has for a node: its entry and its facts.
+const NODE_BYTES: usize = 5 + GROUP_BYTES;
 
-// The bytes of a run of the list.
-pub fn run_bytes(list: &[u8], run: Run) -> &[u8]
-    requires { Within (length list.now) run }
-{
-    let from = run.from;
-    let to = run.to;
-    &list[from..to]
+// The columns, the groups and the count. Only the nodes below the count are in use.
+#[derive(Drop)]
+pub struct Table {
+    pub kinds: [u8; MOST_NODES],
+    pub lefts: [u16; MOST_NODES],
+    pub rights: [u16; MOST_NODES],
+    pub groups: [u8; MOST_NODES * GROUP_BYTES],
+    pub count: usize,
 }
 
-// Whether the lent values, a single one and a list of them, hold what is expected. `wanted` is as before the call from the expected count on.
-pub fn same_values(
-    count: usize,
-    wanted: &[u64; MOST_VALUES],
-    value: u64,
-    values: &[u64; MOST_VALUES],
-) -> bool {
-    if count == 1 {
-        return value == wanted[0];
+impl Table {
+    // Before a call has written it: of no nodes, and with 0xEE in every byte.
+    pub fn untouched() -> Self
+        ensures kinds { result.kinds ≡ replicate MOST_NODES 238 }
+        ensures lefts { result.lefts ≡ replicate MOST_NODES 61166 }
+        ensures rights { result.rights ≡ replicate MOST_NODES 61166 }
+        ensures groups { result.groups ≡ replicate (MOST_NODES * GROUP_BYTES) 238 }
+        ensures count { result.count ≡ 0 }
+    {
+        Table {
+            kinds: [0xEE; MOST_NODES],
+            lefts: [0xEEEE; MOST_NODES],
+            rights: [0xEEEE; MOST_NODES],
+            groups: [0xEE; MOST_NODES * GROUP_BYTES],
+            count: 0,
+        }
     }
-    if value != BEFORE {
-        return false;
+
+    // With the same entries, and with groups that no call has written.
+    pub fn without_facts(&self) -> Self
+        ensures { result ≡ record self.now { groups = replicate (MOST_NODES * GROUP_BYTES) 238 } }
+    {
+        Table {
+            groups: [0xEE; MOST_NODES * GROUP_BYTES],
+            ..*self
+        }
     }
-    let mut i = 0;
-    while i < MOST_VALUES {
-        if values[i] != wanted[i] {
+
+    // As a call takes it for reading: kinds, lefts, rights, groups and count.
+    pub fn lent(&self) -> (&[u8], &[u16], &[u16], &[u8], usize)
+        ensures kinds { result.0.now ≡ self.now.kinds }
+        ensures lefts { result.1.now ≡ self.now.lefts }
+        ensures rights { result.2.now ≡ self.now.rights }
+        ensures groups { result.3.now ≡ self.now.groups }
+        ensures count { result.4 ≡ self.now.count }
+    {
+        (
+            &self.kinds,
+            &self.lefts,
+            &self.rights,
+            &self.groups,
+            self.count,
+        )
+    }
+
+    // Whether these are its nodes, one after the other, so many and no more.
+    pub fn has_nodes(&self, nodes: &[u8]) -> bool {
+        if self.count > MOST_NODES || nodes.len() != NODE_BYTES * self.count {
             return false;
         }
-        i += 1;
+        for i in 0..self.count {
+            let (entry, facts) = nodes[NODE_BYTES * i..NODE_BYTES * (i + 1)].split_at(5);
+            let group = &self.groups[GROUP_BYTES * i..GROUP_BYTES * (i + 1)];
+            if !(same_entry(entry, self.kinds[i], self.lefts[i], self.rights[i])
+                && same_facts(facts, group))
+            {
+                return false;
+            }
+        }
+        true
     }
-    true
 }
 
-// Whether the front of an output has the bytes of a run of the list.
-fn same_run(list: &[u8], run: Run, out: &[u8], room: usize) -> bool
-    requires within { Within (length list.now) run }
-    requires room_in_bounds { room ≤ length out.now }
+// Whether an entry is the one that a case expects: kind, left and right, each with its highest byte first.
+fn same_entry(expected: &[u8], kind: u8, left: u16, right: u16) -> bool
+    requires { length expected.now ≡ 5 }
 {
-    same_bytes(&out[..room], run_bytes(list, run))
+    expected[0] == kind
+        && u16::from_be_bytes([expected[1], expected[2]]) == left
+        && u16::from_be_bytes([expected[3], expected[4]]) == right
 }
 
-// Whether a call has left what is expected: the result, the position, the accepted values, and the output, of which `room` bytes were lent.
-pub fn as_expected(
-    list: &[u8],
-    e: Expected,
-    wanted: &[u64; MOST_VALUES],
-    code: u64,
-    position: u64,
-    value: u64,
-    values: &[u64; MOST_VALUES],
-    out: &[u8],
-    room: usize,
-) -> bool
-    requires within { Within (length list.now) e.out }
-    requires room_in_bounds { room ≤ length out.now }
+// Whether the facts in a group are the ones that a case expects: width, size, padded, class and least length. A case has each number with its
+// highest byte first, a group with its lowest byte first.
+fn same_facts(expected: &[u8], group: &[u8]) -> bool
+    requires expected_length { length expected.now ≡ GROUP_BYTES }
+    requires group_length { length group.now ≡ GROUP_BYTES }
 {
-    if code != e.code {
-        return false;
-    }
-    if position != e.position {
-        return false;
-    }
-    if !same_values(e.values, wanted, value, values) {
-        return false;
-    }
-    same_run(list, e.out, out, room)
+    turned(&expected[..8], &group[..8])
+        && turned(&expected[8..16], &group[8..16])
+        && expected[16] == group[16]
+        && turned(&expected[17..19], &group[17..19])
+        && turned(&expected[19..], &group[19..])
+}
+
+// Whether bytes are the same in the opposite order.
+fn turned(a: &[u8], b: &[u8]) -> bool {
+    a.iter().eq(b.iter().rev())
 }

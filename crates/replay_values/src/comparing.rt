@@ -1,52 +1,21 @@
-// Comparison of records, calls 19 and 20 of include/CALLS.md.
-ghost use Rattle.std.specs.Prelude.{length};
-ghost use Rattle.lists.specs.Parts.{Lent};
+// Comparison of records.
+use lists::{Numbers, Request};
+use replay_parts::Table;
+use samples_names::ComparingCall;
 
-use lists::Request;
-use replay_parts::run_bytes;
-
-// One of the two; any other number is the last of them.
-pub(crate) fn comparing(
-    list: &[u8],
-    call: usize,
-    kinds: &[u8],
-    lefts: &[u16],
-    rights: &[u16],
-    groups: &[u8],
-    count: usize,
-    q: Request,
-    value: &mut u64,
-) -> u64
-    requires { Lent (length list.now) q }
-{
+// Makes one of these calls, and answers its result.
+pub fn ask(call: ComparingCall, table: &Table, q: &Request, numbers: &mut Numbers) -> u64 {
+    let (kinds, lefts, rights, groups, count) = table.lent();
+    let (a, b) = (q.a, q.b);
+    let value = &mut numbers.value;
     match call {
-        19 => exports::qv_equal(
-            kinds,
-            lefts,
-            rights,
-            groups,
-            count,
-            run_bytes(list, q.a),
-            q.a_offset,
-            q.a_node,
-            run_bytes(list, q.b),
-            q.b_offset,
-            q.b_node,
-            value,
+        ComparingCall::Equal => exports::qv_equal(
+            kinds, lefts, rights, groups, count, a.bytes, a.offset, a.node, b.bytes, b.offset,
+            b.node, value,
         ),
-        _ => exports::qv_compare(
-            kinds,
-            lefts,
-            rights,
-            groups,
-            count,
-            run_bytes(list, q.a),
-            q.a_offset,
-            q.a_node,
-            run_bytes(list, q.b),
-            q.b_offset,
-            q.b_node,
-            value,
+        ComparingCall::Compare => exports::qv_compare(
+            kinds, lefts, rights, groups, count, a.bytes, a.offset, a.node, b.bytes, b.offset,
+            b.node, value,
         ),
     }
 }

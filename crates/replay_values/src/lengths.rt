@@ -1,46 +1,19 @@
-// Lengths of a record, calls 21 and 22 of include/CALLS.md.
-ghost use Rattle.std.specs.Prelude.{length};
-ghost use Rattle.lists.specs.Parts.{Lent};
+// Lengths of a record.
+use lists::{Numbers, Request};
+use replay_parts::Table;
+use samples_names::LengthsCall;
 
-use lists::Request;
-use replay_parts::run_bytes;
-
-// One of the two; any other number is the last of them.
-pub(crate) fn lengths(
-    list: &[u8],
-    call: usize,
-    kinds: &[u8],
-    lefts: &[u16],
-    rights: &[u16],
-    groups: &[u8],
-    count: usize,
-    q: Request,
-    value: &mut u64,
-) -> u64
-    requires { Lent (length list.now) q }
-{
+// Makes one of these calls, and answers its result.
+pub fn ask(call: LengthsCall, table: &Table, q: &Request, numbers: &mut Numbers) -> u64 {
+    let (kinds, lefts, rights, groups, count) = table.lent();
+    let a = q.a;
+    let value = &mut numbers.value;
     match call {
-        21 => exports::qv_compact_len(
-            kinds,
-            lefts,
-            rights,
-            groups,
-            count,
-            run_bytes(list, q.a),
-            q.a_offset,
-            q.a_node,
-            value,
+        LengthsCall::CompactLen => exports::qv_compact_len(
+            kinds, lefts, rights, groups, count, a.bytes, a.offset, a.node, value,
         ),
-        _ => exports::qv_padded_len(
-            kinds,
-            lefts,
-            rights,
-            groups,
-            count,
-            run_bytes(list, q.a),
-            q.a_offset,
-            q.a_node,
-            value,
+        LengthsCall::PaddedLen => exports::qv_padded_len(
+            kinds, lefts, rights, groups, count, a.bytes, a.offset, a.node, value,
         ),
     }
 }

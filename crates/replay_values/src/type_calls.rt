@@ -1,26 +1,36 @@
-// Questions about types, calls 3 to 10 of include/CALLS.md.
-use lists::Request;
+// Questions about types.
+use lists::{Numbers, Request};
+use replay_parts::Table;
+use samples_names::TypesCall;
 
-// One of the questions; any other number is the last of them.
-pub(crate) fn types(
-    call: usize,
-    kinds: &[u8],
-    lefts: &[u16],
-    rights: &[u16],
-    groups: &[u8],
-    count: usize,
-    q: Request,
-    value: &mut u64,
-    values: &mut [u64],
-) -> u64 {
+// Makes one of these calls, and answers its result.
+pub fn ask(call: TypesCall, table: &Table, q: &Request, numbers: &mut Numbers) -> u64 {
+    let (kinds, lefts, rights, groups, count) = table.lent();
+    let Numbers { value, values, .. } = numbers;
     match call {
-        3 => exports::qv_facts_of(kinds, lefts, rights, groups, count, q.node, values),
-        4 => exports::qv_same_type(kinds, lefts, rights, groups, count, q.node, q.other, value),
-        5 => exports::qv_is_unit(kinds, lefts, rights, groups, count, q.node, value),
-        6 => exports::qv_is_empty(kinds, lefts, rights, groups, count, q.node, value),
-        7 => exports::qv_type_as_sum(kinds, lefts, rights, groups, count, q.node, values),
-        8 => exports::qv_type_as_product(kinds, lefts, rights, groups, count, q.node, values),
-        9 => exports::qv_pad_left(kinds, lefts, rights, groups, count, q.node, q.other, value),
-        _ => exports::qv_pad_right(kinds, lefts, rights, groups, count, q.node, q.other, value),
+        TypesCall::FactsOf => exports::qv_facts_of(
+            kinds, lefts, rights, groups, count, q.node, values,
+        ),
+        TypesCall::SameType => exports::qv_same_type(
+            kinds, lefts, rights, groups, count, q.node, q.other, value,
+        ),
+        TypesCall::IsUnit => exports::qv_is_unit(
+            kinds, lefts, rights, groups, count, q.node, value,
+        ),
+        TypesCall::IsEmpty => exports::qv_is_empty(
+            kinds, lefts, rights, groups, count, q.node, value,
+        ),
+        TypesCall::TypeAsSum => exports::qv_type_as_sum(
+            kinds, lefts, rights, groups, count, q.node, values,
+        ),
+        TypesCall::TypeAsProduct => exports::qv_type_as_product(
+            kinds, lefts, rights, groups, count, q.node, values,
+        ),
+        TypesCall::PadLeft => exports::qv_pad_left(
+            kinds, lefts, rights, groups, count, q.node, q.other, value,
+        ),
+        TypesCall::PadRight => exports::qv_pad_right(
+            kinds, lefts, rights, groups, count, q.node, q.other, value,
+        ),
     }
 }

@@ -1,57 +1,22 @@
-// Views of a record, calls 16 to 18 of include/CALLS.md.
-ghost use Rattle.std.specs.Prelude.{length};
-ghost use Rattle.lists.specs.Parts.{Lent};
+// Views of a record.
+use lists::{Numbers, Request};
+use replay_parts::Table;
+use samples_names::ViewsCall;
 
-use lists::Request;
-use replay_parts::run_bytes;
-
-// One of the views; any other number is the last of them.
-pub(crate) fn views(
-    list: &[u8],
-    call: usize,
-    kinds: &[u8],
-    lefts: &[u16],
-    rights: &[u16],
-    groups: &[u8],
-    count: usize,
-    q: Request,
-    values: &mut [u64],
-) -> u64
-    requires { Lent (length list.now) q }
-{
+// Makes one of these calls, and answers its result.
+pub fn ask(call: ViewsCall, table: &Table, q: &Request, numbers: &mut Numbers) -> u64 {
+    let (kinds, lefts, rights, groups, count) = table.lent();
+    let a = q.a;
+    let values = &mut numbers.values;
     match call {
-        16 => exports::qv_as_left(
-            kinds,
-            lefts,
-            rights,
-            groups,
-            count,
-            run_bytes(list, q.a),
-            q.a_offset,
-            q.a_node,
-            values,
+        ViewsCall::AsLeft => exports::qv_as_left(
+            kinds, lefts, rights, groups, count, a.bytes, a.offset, a.node, values,
         ),
-        17 => exports::qv_as_right(
-            kinds,
-            lefts,
-            rights,
-            groups,
-            count,
-            run_bytes(list, q.a),
-            q.a_offset,
-            q.a_node,
-            values,
+        ViewsCall::AsRight => exports::qv_as_right(
+            kinds, lefts, rights, groups, count, a.bytes, a.offset, a.node, values,
         ),
-        _ => exports::qv_as_product(
-            kinds,
-            lefts,
-            rights,
-            groups,
-            count,
-            run_bytes(list, q.a),
-            q.a_offset,
-            q.a_node,
-            values,
+        ViewsCall::AsProduct => exports::qv_as_product(
+            kinds, lefts, rights, groups, count, a.bytes, a.offset, a.node, values,
         ),
     }
 }

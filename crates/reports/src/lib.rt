@@ -6,8 +6,6 @@ ghost use Rattle.lines_digits.specs.Report.{file_text};
 ghost use Rattle.lines_digits.specs.Buffer.{Printed};
 ghost use Rattle.lines.specs.Room.{report_room};
 
-use answers::Count;
-
 // The bytes that hold any report, one of 1,024 nodes too: `report_room 1024`.
 pub const REPORT_BYTES: usize = 1024 * lines::LINE_BYTES + lines::HEAD_BYTES;
 
@@ -20,9 +18,8 @@ pub fn report_file(file: &[u8], out: &mut [u8]) -> usize
     let mut lefts = [0u16; 1024];
     let mut rights = [0u16; 1024];
     let mut groups = [0u8; 1024 * groups::GROUP_BYTES];
-    let read = table::read_table(file, &mut kinds, &mut lefts, &mut rights, &mut groups);
-    match read {
-        Count::Is(count) => lines::report(out, &kinds, &groups, count),
-        Count::Refused(r) => lines::refusal_line(out, r.number, r.place),
+    match table::read_table(file, &mut kinds, &mut lefts, &mut rights, &mut groups) {
+        Ok(count) => lines::report(out, &kinds, &groups, count),
+        Err(refusal) => lines::refusal_line(out, refusal.number(), refusal.place()),
     }
 }

@@ -3,10 +3,9 @@
 // the head of oracle/src/bin/record.rs.
 #![tactic(auto)]
 
-ghost use Rattle.std.specs.Prelude.{◌≤◌};
-
-use lists::MOST_GROUPS_BYTES;
-use samples_names::print_name;
+use lists::Reader;
+use replay::{Entry, take_step};
+use replay_parts::Table;
 use std::env::{Env, FillError};
 use std::fs::Files;
 use std::io;
@@ -15,94 +14,83 @@ use std::io::Read;
 // A list is shorter.
 const LIST_BYTES: usize = 98304;
 
-// One more. No list has so many cases that this would wrap.
-fn one_more(n: u64) -> u64 {
-    n.wrapping_add(1)
+// How many cases were replayed, and how many of them differed.
+#[derive(Clone, Copy, Default)]
+struct Tally {
+    replayed: u64,
+    differing: u64,
 }
 
-// Counts one more case of a call. A call's number is a byte of the list, so there are 256 counts, however many calls there are.
-fn count_case(counts: &mut [u64; 256], call: usize)
-    requires { call ≤ 255 }
-{
-    counts[call] = one_more(counts[call]);
-}
-
-// A case, by its number from 0 on, that is not as the list expects.
-fn print_difference(rt: &impl Print, case: u64, call: usize) -> io::Result<()> {
-    print!(rt; "case {case} differs: ")?;
-    print_name(rt, call)?;
-    println!(rt; "")
-}
-
-// The case at which the list can't be read on: it ends early, or has a number that no list has.
-fn print_damage(rt: &impl Print, case: u64) -> io::Result<()> {
-    println!(rt; "the list is damaged at case {case}")
-}
-
-// How many cases were replayed, a word for them, and how many of them differed.
-fn print_counts(rt: &impl Print, replayed: u64, word: &str, differing: u64) -> io::Result<()> {
-    println!(rt; "{replayed} {word}, {differing} differ")
-}
-
-// A line for each call that the list has cases of, in the order of their numbers, and for its tables.
-fn print_calls(rt: &impl Print, replayed: &[u64; 256], differing: &[u64; 256]) -> io::Result<()> {
-    for call in 0..256 {
-        if replayed[call] > 0 {
-            print_name(rt, call)?;
-            print!(rt; ": ")?;
-            print_counts(rt, replayed[call], "replayed", differing[call])?;
+impl Tally {
+    // Counts one more case. No list has so many that the numbers would stop.
+    fn count(&mut self, agrees: bool) {
+        self.replayed = self.replayed.saturating_add(1);
+        if !agrees {
+            self.differing = self.differing.saturating_add(1);
         }
     }
-    Ok(())
 }
 
-// Replays a list, and prints what it finds.
-fn replay_list(rt: &impl Print, list: &[u8]) -> io::Result<()> {
-    let mut kinds = [0u8; 1024];
-    let mut lefts = [0u16; 1024];
-    let mut rights = [0u16; 1024];
-    let mut groups = [0u8; MOST_GROUPS_BYTES];
-    let mut count = 0;
-    let mut replayed = [0u64; 256];
-    let mut differing = [0u64; 256];
-    let mut differences = 0;
-    let head = lists::number_at(list, 0);
-    let cases = head.value;
-    let mut at = head.next;
-    let mut case = 0;
-    while case < cases {
-        let step = replay::take_step(
-            list,
-            at,
-            count,
-            &mut kinds,
-            &mut lefts,
-            &mut rights,
-            &mut groups,
-        );
-        at = step.next;
-        if at > list.len() {
-            break;
-        }
-        count = step.count;
-        let call = step.call;
-        count_case(&mut replayed, call);
+// The cases of each call, with those of tables, by the byte that announces them, and all cases. An array and no map: the program has fixed memory
+// and no heap.
+#[derive(Clone, Copy)]
+struct Tallies {
+    by_byte: [Tally; 256],
+    all: Tally,
+}
+
+// Replays the cases of a list, counts them, and prints a line for each that is not as the list expects. Answers whether the list has them all: it
+// can't be read on where it ends early, or has a number that no list has.
+fn replay_cases(rt: &impl Print, list: &mut Reader, tallies: &mut Tallies) -> io::Result<bool> {
+    let Some(cases) = list.number() else {
+        return Ok(false);
+    };
+    let mut table = Table::untouched();
+    for case in 0..cases {
+        let Some(step) = take_step(list, &mut table) else {
+            return Ok(false);
+        };
         if !step.agrees {
-            count_case(&mut differing, call);
-            differences = one_more(differences);
-            print_difference(rt, case, call)?;
+            println!(rt; "case {case} differs: {}", step.entry)?;
         }
-        case += 1;
+        tallies.by_byte[usize::from(step.byte)].count(step.agrees);
+        tallies.all.count(step.agrees);
     }
-    print_calls(rt, &replayed, &differing)?;
-    print_counts(rt, case, "cases", differences)?;
-    if at > list.len() {
-        return print_damage(rt, case);
+    Ok(true)
+}
+
+// Replays a list, and prints what it finds: of each call that the list has cases of, in the order of include/calls.list, of its tables, and of all.
+fn replay_list(rt: &impl Print, list: &[u8]) -> io::Result<()> {
+    let mut list = Reader::new(list);
+    let mut tallies = Tallies {
+        by_byte: [Tally::default(); 256],
+        all: Tally::default(),
+    };
+    let whole = replay_cases(rt, &mut list, &mut tallies)?;
+    for byte in 0..=u8::MAX {
+        let tally = tallies.by_byte[usize::from(byte)];
+        let Ok(entry) = Entry::try_from(byte) else {
+            continue;
+        };
+        if tally.replayed != 0 {
+            println!(rt;
+                "{entry}: {} replayed, {} differ",
+                tally.replayed, tally.differing
+            )?;
+        }
     }
-    if at < list.len() {
-        println!(rt; "bytes follow the last case")?;
+    let Tally {
+        replayed,
+        differing,
+    } = tallies.all;
+    println!(rt; "{replayed} cases, {differing} differ")?;
+    if !whole {
+        println!(rt; "the list is damaged at case {replayed}")
+    } else if !list.is_empty() {
+        println!(rt; "bytes follow the last case")
+    } else {
+        Ok(())
     }
-    Ok(())
 }
 
 // Replays what an input has. Where a read fails, the list is the bytes before.
@@ -137,7 +125,9 @@ fn main(rt: HostRuntime) -> io::Result<()> {
         match rt.arg(i, &mut name) {
             Ok(named) => replay_arg(&rt, &name[..named], &err)?,
             Err(FillError::TooLong) => inputs::say_too_long(&err),
-            Err(FillError::NotPresent) if i == 1 => return replay_file(&rt, &mut rt.stdin()),
+            Err(FillError::NotPresent) if i == 1 => {
+                return replay_file(&rt, &mut rt.stdin());
+            },
             Err(FillError::NotPresent) => break,
         }
     }

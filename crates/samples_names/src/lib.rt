@@ -1,101 +1,348 @@
-// The names of the calls, by their numbers in include/calls.list, from which tools/calls writes this file.
+// The calls, part by part, with their names, and which call a number is. tools/calls writes this file from include/calls.list.
 #![tactic(auto)]
 
-use std::io;
+use std::fmt;
 
-// Calls 0 to 9; any other number is the last of them.
-fn print_from_0(rt: &impl Print, call: usize) -> io::Result<()> {
-    match call {
-        0 => rt.print("read_table"),
-        1 => rt.print("fill_facts"),
-        2 => rt.print("check_table"),
-        3 => rt.print("facts_of"),
-        4 => rt.print("same_type"),
-        5 => rt.print("is_unit"),
-        6 => rt.print("is_empty"),
-        7 => rt.print("type_as_sum"),
-        8 => rt.print("type_as_product"),
-        _ => rt.print("pad_left"),
+// Tables.
+#[derive(Clone, Copy, PartialEq, Eq, PartialOrd, Ord)]
+pub enum TablesCall {
+    ReadTable,
+    FillFacts,
+    CheckTable,
+}
+
+impl fmt::Display for TablesCall {
+    fn fmt<W: fmt::Write>(&self, f: &mut fmt::Formatter<W>) -> fmt::Result {
+        f.write_str(match self {
+            TablesCall::ReadTable => "read_table",
+            TablesCall::FillFacts => "fill_facts",
+            TablesCall::CheckTable => "check_table",
+        })
     }
 }
 
-// Calls 10 to 19; any other number is the last of them.
-fn print_from_10(rt: &impl Print, call: usize) -> io::Result<()> {
-    match call {
-        10 => rt.print("pad_right"),
-        11 => rt.print("as_word"),
-        12 => rt.print("word_width"),
-        13 => rt.print("buffer_width"),
-        14 => rt.print("is_buffer8"),
-        15 => rt.print("is_ctx8"),
-        16 => rt.print("as_left"),
-        17 => rt.print("as_right"),
-        18 => rt.print("as_product"),
-        _ => rt.print("equal"),
+// Questions about types.
+#[derive(Clone, Copy, PartialEq, Eq, PartialOrd, Ord)]
+pub enum TypesCall {
+    FactsOf,
+    SameType,
+    IsUnit,
+    IsEmpty,
+    TypeAsSum,
+    TypeAsProduct,
+    PadLeft,
+    PadRight,
+}
+
+impl fmt::Display for TypesCall {
+    fn fmt<W: fmt::Write>(&self, f: &mut fmt::Formatter<W>) -> fmt::Result {
+        f.write_str(match self {
+            TypesCall::FactsOf => "facts_of",
+            TypesCall::SameType => "same_type",
+            TypesCall::IsUnit => "is_unit",
+            TypesCall::IsEmpty => "is_empty",
+            TypesCall::TypeAsSum => "type_as_sum",
+            TypesCall::TypeAsProduct => "type_as_product",
+            TypesCall::PadLeft => "pad_left",
+            TypesCall::PadRight => "pad_right",
+        })
     }
 }
 
-// Calls 20 to 29; any other number is the last of them.
-fn print_from_20(rt: &impl Print, call: usize) -> io::Result<()> {
-    match call {
-        20 => rt.print("compare"),
-        21 => rt.print("compact_len"),
-        22 => rt.print("padded_len"),
-        23 => rt.print("unit"),
-        24 => rt.print("left"),
-        25 => rt.print("right"),
-        26 => rt.print("product"),
-        27 => rt.print("none"),
-        28 => rt.print("some"),
-        _ => rt.print("zero"),
+// Word types, buffer types and the hash state's type.
+#[derive(Clone, Copy, PartialEq, Eq, PartialOrd, Ord)]
+pub enum WordTypesCall {
+    AsWord,
+    WordWidth,
+    BufferWidth,
+    IsBuffer8,
+    IsCtx8,
+}
+
+impl fmt::Display for WordTypesCall {
+    fn fmt<W: fmt::Write>(&self, f: &mut fmt::Formatter<W>) -> fmt::Result {
+        f.write_str(match self {
+            WordTypesCall::AsWord => "as_word",
+            WordTypesCall::WordWidth => "word_width",
+            WordTypesCall::BufferWidth => "buffer_width",
+            WordTypesCall::IsBuffer8 => "is_buffer8",
+            WordTypesCall::IsCtx8 => "is_ctx8",
+        })
     }
 }
 
-// Calls 30 to 39; any other number is the last of them.
-fn print_from_30(rt: &impl Print, call: usize) -> io::Result<()> {
-    match call {
-        30 => rt.print("u1"),
-        31 => rt.print("u2"),
-        32 => rt.print("u4"),
-        33 => rt.print("u8"),
-        34 => rt.print("u16"),
-        35 => rt.print("u32"),
-        36 => rt.print("u64"),
-        37 => rt.print("u128"),
-        38 => rt.print("u256"),
-        _ => rt.print("u512"),
+// Views of a record.
+#[derive(Clone, Copy, PartialEq, Eq, PartialOrd, Ord)]
+pub enum ViewsCall {
+    AsLeft,
+    AsRight,
+    AsProduct,
+}
+
+impl fmt::Display for ViewsCall {
+    fn fmt<W: fmt::Write>(&self, f: &mut fmt::Formatter<W>) -> fmt::Result {
+        f.write_str(match self {
+            ViewsCall::AsLeft => "as_left",
+            ViewsCall::AsRight => "as_right",
+            ViewsCall::AsProduct => "as_product",
+        })
     }
 }
 
-// Calls 40 to 49; any other number is the last of them.
-fn print_from_40(rt: &impl Print, call: usize) -> io::Result<()> {
-    match call {
-        40 => rt.print("from_byte_array"),
-        41 => rt.print("word_product"),
-        42 => rt.print("word_from_bits"),
-        43 => rt.print("buffer8_two_n_plus_one"),
-        44 => rt.print("ctx8"),
-        45 => rt.print("from_compact_bits"),
-        46 => rt.print("from_padded_bits"),
-        47 => rt.print("to_compact_bits"),
-        48 => rt.print("to_padded_bits"),
-        _ => rt.print("prune"),
+// Comparison.
+#[derive(Clone, Copy, PartialEq, Eq, PartialOrd, Ord)]
+pub enum ComparingCall {
+    Equal,
+    Compare,
+}
+
+impl fmt::Display for ComparingCall {
+    fn fmt<W: fmt::Write>(&self, f: &mut fmt::Formatter<W>) -> fmt::Result {
+        f.write_str(match self {
+            ComparingCall::Equal => "equal",
+            ComparingCall::Compare => "compare",
+        })
     }
 }
 
-// Prints the name of a call. Any other number is a table of the list.
-pub fn print_name(rt: &impl Print, call: usize) -> io::Result<()> {
-    if call < 10 {
-        print_from_0(rt, call)
-    } else if call < 20 {
-        print_from_10(rt, call)
-    } else if call < 30 {
-        print_from_20(rt, call)
-    } else if call < 40 {
-        print_from_30(rt, call)
-    } else if call < 50 {
-        print_from_40(rt, call)
-    } else {
-        rt.print("table")
+// Lengths.
+#[derive(Clone, Copy, PartialEq, Eq, PartialOrd, Ord)]
+pub enum LengthsCall {
+    CompactLen,
+    PaddedLen,
+}
+
+impl fmt::Display for LengthsCall {
+    fn fmt<W: fmt::Write>(&self, f: &mut fmt::Formatter<W>) -> fmt::Result {
+        f.write_str(match self {
+            LengthsCall::CompactLen => "compact_len",
+            LengthsCall::PaddedLen => "padded_len",
+        })
+    }
+}
+
+// Constructors.
+#[derive(Clone, Copy, PartialEq, Eq, PartialOrd, Ord)]
+pub enum ConstructorsCall {
+    Unit,
+    Left,
+    Right,
+    Product,
+    None,
+    Some,
+    Zero,
+}
+
+impl fmt::Display for ConstructorsCall {
+    fn fmt<W: fmt::Write>(&self, f: &mut fmt::Formatter<W>) -> fmt::Result {
+        f.write_str(match self {
+            ConstructorsCall::Unit => "unit",
+            ConstructorsCall::Left => "left",
+            ConstructorsCall::Right => "right",
+            ConstructorsCall::Product => "product",
+            ConstructorsCall::None => "none",
+            ConstructorsCall::Some => "some",
+            ConstructorsCall::Zero => "zero",
+        })
+    }
+}
+
+// Words.
+#[derive(Clone, Copy, PartialEq, Eq, PartialOrd, Ord)]
+pub enum WordsCall {
+    U1,
+    U2,
+    U4,
+    U8,
+    U16,
+    U32,
+    U64,
+    U128,
+    U256,
+    U512,
+    FromByteArray,
+}
+
+impl fmt::Display for WordsCall {
+    fn fmt<W: fmt::Write>(&self, f: &mut fmt::Formatter<W>) -> fmt::Result {
+        f.write_str(match self {
+            WordsCall::U1 => "u1",
+            WordsCall::U2 => "u2",
+            WordsCall::U4 => "u4",
+            WordsCall::U8 => "u8",
+            WordsCall::U16 => "u16",
+            WordsCall::U32 => "u32",
+            WordsCall::U64 => "u64",
+            WordsCall::U128 => "u128",
+            WordsCall::U256 => "u256",
+            WordsCall::U512 => "u512",
+            WordsCall::FromByteArray => "from_byte_array",
+        })
+    }
+}
+
+// Words joined and read.
+#[derive(Clone, Copy, PartialEq, Eq, PartialOrd, Ord)]
+pub enum JoinsCall {
+    WordProduct,
+    WordFromBits,
+}
+
+impl fmt::Display for JoinsCall {
+    fn fmt<W: fmt::Write>(&self, f: &mut fmt::Formatter<W>) -> fmt::Result {
+        f.write_str(match self {
+            JoinsCall::WordProduct => "word_product",
+            JoinsCall::WordFromBits => "word_from_bits",
+        })
+    }
+}
+
+// Buffers and the hash state.
+#[derive(Clone, Copy, PartialEq, Eq, PartialOrd, Ord)]
+pub enum BuffersCall {
+    Buffer8TwoNPlusOne,
+    Ctx8,
+}
+
+impl fmt::Display for BuffersCall {
+    fn fmt<W: fmt::Write>(&self, f: &mut fmt::Formatter<W>) -> fmt::Result {
+        f.write_str(match self {
+            BuffersCall::Buffer8TwoNPlusOne => "buffer8_two_n_plus_one",
+            BuffersCall::Ctx8 => "ctx8",
+        })
+    }
+}
+
+// Codecs.
+#[derive(Clone, Copy, PartialEq, Eq, PartialOrd, Ord)]
+pub enum CodecsCall {
+    FromCompactBits,
+    FromPaddedBits,
+    ToCompactBits,
+    ToPaddedBits,
+}
+
+impl fmt::Display for CodecsCall {
+    fn fmt<W: fmt::Write>(&self, f: &mut fmt::Formatter<W>) -> fmt::Result {
+        f.write_str(match self {
+            CodecsCall::FromCompactBits => "from_compact_bits",
+            CodecsCall::FromPaddedBits => "from_padded_bits",
+            CodecsCall::ToCompactBits => "to_compact_bits",
+            CodecsCall::ToPaddedBits => "to_padded_bits",
+        })
+    }
+}
+
+// The cut.
+#[derive(Clone, Copy, PartialEq, Eq, PartialOrd, Ord)]
+pub enum CutsCall {
+    Prune,
+}
+
+impl fmt::Display for CutsCall {
+    fn fmt<W: fmt::Write>(&self, f: &mut fmt::Formatter<W>) -> fmt::Result {
+        f.write_str(match self {
+            CutsCall::Prune => "prune",
+        })
+    }
+}
+
+// A call.
+#[derive(Clone, Copy, PartialEq, Eq, PartialOrd, Ord)]
+pub enum Call {
+    Tables(TablesCall),
+    Types(TypesCall),
+    WordTypes(WordTypesCall),
+    Views(ViewsCall),
+    Comparing(ComparingCall),
+    Lengths(LengthsCall),
+    Constructors(ConstructorsCall),
+    Words(WordsCall),
+    Joins(JoinsCall),
+    Buffers(BuffersCall),
+    Codecs(CodecsCall),
+    Cuts(CutsCall),
+}
+
+impl fmt::Display for Call {
+    fn fmt<W: fmt::Write>(&self, f: &mut fmt::Formatter<W>) -> fmt::Result {
+        match self {
+            Call::Tables(call) => call.fmt(f),
+            Call::Types(call) => call.fmt(f),
+            Call::WordTypes(call) => call.fmt(f),
+            Call::Views(call) => call.fmt(f),
+            Call::Comparing(call) => call.fmt(f),
+            Call::Lengths(call) => call.fmt(f),
+            Call::Constructors(call) => call.fmt(f),
+            Call::Words(call) => call.fmt(f),
+            Call::Joins(call) => call.fmt(f),
+            Call::Buffers(call) => call.fmt(f),
+            Call::Codecs(call) => call.fmt(f),
+            Call::Cuts(call) => call.fmt(f),
+        }
+    }
+}
+
+// A number that is no call's.
+#[derive(Clone, Copy)]
+pub struct NoCall(pub u8);
+
+impl TryFrom<u8> for Call {
+    type Error = NoCall;
+
+    fn try_from(number: u8) -> Result<Self, NoCall> {
+        match number {
+            0 => Ok(Call::Tables(TablesCall::ReadTable)),
+            1 => Ok(Call::Tables(TablesCall::FillFacts)),
+            2 => Ok(Call::Tables(TablesCall::CheckTable)),
+            3 => Ok(Call::Types(TypesCall::FactsOf)),
+            4 => Ok(Call::Types(TypesCall::SameType)),
+            5 => Ok(Call::Types(TypesCall::IsUnit)),
+            6 => Ok(Call::Types(TypesCall::IsEmpty)),
+            7 => Ok(Call::Types(TypesCall::TypeAsSum)),
+            8 => Ok(Call::Types(TypesCall::TypeAsProduct)),
+            9 => Ok(Call::Types(TypesCall::PadLeft)),
+            10 => Ok(Call::Types(TypesCall::PadRight)),
+            11 => Ok(Call::WordTypes(WordTypesCall::AsWord)),
+            12 => Ok(Call::WordTypes(WordTypesCall::WordWidth)),
+            13 => Ok(Call::WordTypes(WordTypesCall::BufferWidth)),
+            14 => Ok(Call::WordTypes(WordTypesCall::IsBuffer8)),
+            15 => Ok(Call::WordTypes(WordTypesCall::IsCtx8)),
+            16 => Ok(Call::Views(ViewsCall::AsLeft)),
+            17 => Ok(Call::Views(ViewsCall::AsRight)),
+            18 => Ok(Call::Views(ViewsCall::AsProduct)),
+            19 => Ok(Call::Comparing(ComparingCall::Equal)),
+            20 => Ok(Call::Comparing(ComparingCall::Compare)),
+            21 => Ok(Call::Lengths(LengthsCall::CompactLen)),
+            22 => Ok(Call::Lengths(LengthsCall::PaddedLen)),
+            23 => Ok(Call::Constructors(ConstructorsCall::Unit)),
+            24 => Ok(Call::Constructors(ConstructorsCall::Left)),
+            25 => Ok(Call::Constructors(ConstructorsCall::Right)),
+            26 => Ok(Call::Constructors(ConstructorsCall::Product)),
+            27 => Ok(Call::Constructors(ConstructorsCall::None)),
+            28 => Ok(Call::Constructors(ConstructorsCall::Some)),
+            29 => Ok(Call::Constructors(ConstructorsCall::Zero)),
+            30 => Ok(Call::Words(WordsCall::U1)),
+            31 => Ok(Call::Words(WordsCall::U2)),
+            32 => Ok(Call::Words(WordsCall::U4)),
+            33 => Ok(Call::Words(WordsCall::U8)),
+            34 => Ok(Call::Words(WordsCall::U16)),
+            35 => Ok(Call::Words(WordsCall::U32)),
+            36 => Ok(Call::Words(WordsCall::U64)),
+            37 => Ok(Call::Words(WordsCall::U128)),
+            38 => Ok(Call::Words(WordsCall::U256)),
+            39 => Ok(Call::Words(WordsCall::U512)),
+            40 => Ok(Call::Words(WordsCall::FromByteArray)),
+            41 => Ok(Call::Joins(JoinsCall::WordProduct)),
+            42 => Ok(Call::Joins(JoinsCall::WordFromBits)),
+            43 => Ok(Call::Buffers(BuffersCall::Buffer8TwoNPlusOne)),
+            44 => Ok(Call::Buffers(BuffersCall::Ctx8)),
+            45 => Ok(Call::Codecs(CodecsCall::FromCompactBits)),
+            46 => Ok(Call::Codecs(CodecsCall::FromPaddedBits)),
+            47 => Ok(Call::Codecs(CodecsCall::ToCompactBits)),
+            48 => Ok(Call::Codecs(CodecsCall::ToPaddedBits)),
+            49 => Ok(Call::Cuts(CutsCall::Prune)),
+            _ => Err(NoCall(number)),
+        }
     }
 }

@@ -4,41 +4,29 @@
 #![tactic(auto)]
 
 ghost use Rattle.std.specs.Prelude.{◌≡◌};
-ghost use Rattle.meaning.specs.Tables.{table, columns};
+ghost use Rattle.meaning.specs.Tables.{columns};
 ghost use Rattle.meaning.specs.TypeCalls.{check_table_call, fill_facts_call, fill_facts_out, read_table_call, read_table_columns_out, read_table_groups_out};
 ghost use Rattle.answers.specs.Verdicts.{done_of, count_of};
 
-use answers::{Count, Done};
+use answers::Refusal;
+use tables::{Columns, Table};
 
 // The table is sound.
-pub fn check_table(kinds: &[u8], lefts: &[u16], rights: &[u16], groups: &[u8], count: usize) -> Done
-    ensures { done_of result ≡ check_table_call
-        (table kinds.now lefts.now rights.now groups.now count) }
+pub fn check_table(table: &Table<'_>) -> Result<(), Refusal>
+    ensures { done_of result ≡ check_table_call table.now }
 {
-    checked_table::sound(kinds, lefts, rights, groups, count)
+    checked_table::sound(table)?;
+    Ok(())
 }
 
 // Fills in the facts of each node by its tree.
-pub fn fill_facts(
-    kinds: &[u8],
-    lefts: &[u16],
-    rights: &[u16],
-    count: usize,
-    groups: &mut [u8],
-) -> Done
-    ensures result_value { done_of result ≡ fill_facts_call
-        (columns kinds.now lefts.now rights.now) count
-        groups.old }
-    ensures groups_after { groups.new ≡ fill_facts_out
-        (columns kinds.now lefts.now rights.now) count
-        groups.old }
+pub fn fill_facts(columns: &Columns<'_>, count: usize, groups: &mut [u8]) -> Result<(), Refusal>
+    ensures result_value { done_of result ≡ fill_facts_call columns.now count groups.old }
+    ensures groups_after { groups.new ≡ fill_facts_out columns.now count groups.old }
 {
-    let judged = table_filling::may_fill(kinds, lefts, rights, count, groups);
-    if let Done::Refused(r) = judged {
-        return Done::Refused(r);
-    }
-    facts::fill(kinds, lefts, rights, count, groups);
-    Done::Accepted
+    table_filling::may_fill(columns, count, groups)?;
+    facts::fill(columns, count, groups);
+    Ok(())
 }
 
 // Reads a table from its file, and fills in its facts.
@@ -48,7 +36,7 @@ pub fn read_table(
     lefts: &mut [u16],
     rights: &mut [u16],
     groups: &mut [u8],
-) -> Count
+) -> Result<usize, Refusal>
     ensures result_value { count_of result ≡ read_table_call file.now
         (columns kinds.old lefts.old rights.old)
         groups.old }
@@ -65,10 +53,12 @@ pub fn read_table(
         (columns kinds.old lefts.old rights.old)
         groups.old }
 {
-    let judged = table_reading::may_read(file, kinds, lefts, rights, groups);
-    let Count::Is(count) = judged else {
-        return judged;
+    let lent = Columns {
+        kinds,
+        lefts,
+        rights,
     };
+    let count = table_reading::may_read(file, &lent, groups)?;
     table_reading::write_table(file, kinds, lefts, rights, groups, count);
-    Count::Is(count)
+    Ok(count)
 }

@@ -8,30 +8,24 @@ ghost use Rattle.meaning.specs.Ladder.{accepted};
 ghost use Rattle.meaning.specs.TypeCalls.{read_table_call, entries_in, entries_written, groups_written};
 ghost use Rattle.answers.specs.Verdicts.{count_of};
 
-use answers::{Count, Refusal};
-use files::Judged;
+use answers::Refusal;
+use tables::Columns;
 
 // Whether a table can be read: the file is sound, and there is room. The count of its nodes.
-pub fn may_read(file: &[u8], kinds: &[u8], lefts: &[u16], rights: &[u16], groups: &[u8]) -> Count
-    ensures { count_of result ≡ read_table_call file.now
-        (columns kinds.now lefts.now rights.now)
-        groups.now }
+pub fn may_read(file: &[u8], columns: &Columns<'_>, groups: &[u8]) -> Result<usize, Refusal>
+    ensures { count_of result ≡ read_table_call file.now columns.now groups.now }
 {
-    match files::judge_file(file) {
-        Judged::Fault(place) => Count::Refused(Refusal {
-            number: answers::UNSOUND_NUMBER,
-            place: place,
-        }),
-        Judged::Sound(count) => {
-            if !table_room::columns_reach(kinds, lefts, rights, count) {
-                return Count::Refused(answers::NO_ROOM);
-            }
-            if !table_room::groups_reach(groups, count) {
-                return Count::Refused(answers::NO_ROOM);
-            }
-            Count::Is(count)
-        }
+    let count = match files::judge_file(file) {
+        Ok(count) => count,
+        Err(fault) => return Err(Refusal::Unsound { place: fault.place }),
+    };
+    if !table_room::columns_reach(columns, count) {
+        return Err(Refusal::NoRoom);
     }
+    if !table_room::groups_reach(groups, count) {
+        return Err(Refusal::NoRoom);
+    }
+    Ok(count)
 }
 
 // Writes the nodes of a file that can be read over the columns, and fills in their facts.
@@ -51,5 +45,10 @@ pub fn write_table(
         groups.old }
 {
     files::write_columns(file, kinds, lefts, rights);
-    facts::fill(kinds, lefts, rights, count, groups);
+    let written = Columns {
+        kinds,
+        lefts,
+        rights,
+    };
+    facts::fill(&written, count, groups);
 }

@@ -2,19 +2,15 @@
 #![tactic(auto)]
 
 ghost use Rattle.std.specs.Prelude.{◌≡◌, ◌≤◌};
-ghost use Rattle.meaning.specs.Tables.{columns, columns_reach, groups_reach};
+ghost use Rattle.meaning.specs.Tables.{columns_reach, groups_reach};
+
+use tables::Columns;
 
 // Each column of entries has as many as the count.
-pub fn columns_reach(kinds: &[u8], lefts: &[u16], rights: &[u16], count: usize) -> bool
-    ensures { result ≡ columns_reach (columns kinds.now lefts.now rights.now) count }
+pub fn columns_reach(columns: &Columns<'_>, count: usize) -> bool
+    ensures { result ≡ columns_reach columns.now count }
 {
-    if kinds.len() < count {
-        return false;
-    }
-    if lefts.len() < count {
-        return false;
-    }
-    count <= rights.len()
+    count <= columns.kinds.len() && count <= columns.lefts.len() && count <= columns.rights.len()
 }
 
 // There is a group for each of so many nodes.

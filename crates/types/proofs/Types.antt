@@ -12,15 +12,13 @@ use mathlib.Core.List.{[], ◌∷◌}
 use native.Mathlib.Nat.{max_comm}
 use native.Mathlib.Omega.{arith}
 use lib.Dec.{eqb}
-use lib.ListN.{get_or}
 use borrow.Author.Tests.{eq-eqb, ne_eqb}
 use Rattle.meaning.specs.Types.{Ty, width, is_unit, is_sum, is_prod}
 use Rattle.meaning.specs.Tables.{Table, NodeFacts, kind, left, right, node, ty_at}
 use Rattle.meaning.specs.Ladder.{accepted, ladder, type_at, shaped}
 use Rattle.meaning.specs.TypeCalls.{asks, facts_of_call, is_unit_call, is_empty_call, sides_at, type_as_sum_call, type_as_product_call, pad_left_call, pad_right_call}
-use Rattle.meaning.proofs.Sounds.{sound_tree, sound_kind, sound_width}
+use Rattle.meaning.proofs.Sounds.{sound_tree, sound_kind}
 use Rattle.checked.specs.Passed.{Present}
-use Rattle.checked.proofs.Passed.{asked_passed}
 use Rattle.checked_present.proofs.Asking.{judged, answered, asks_swapped}
 use Rattle.checked.proofs.Told.{own_facts, told_pass, told_answered}
 
@@ -86,13 +84,12 @@ module _ (t : Table) (n : ℕ) {f : NodeFacts} (h : accepted f ≡ facts_of_call
   pub product_told : ladder (shaped (eqb f.kind_of 2)) (record { left_node = f.left_node; right_node = f.right_node }) ≡ type_as_product_call t n
   product_told = let k = own_facts t n h in sides_told 2 (is_prod (type_at t n)) (product_kind t n k.of_node)
 
--- The padding of two nodes, from their widths as they were read.
-pub padding_told : (t : Table) (a b : ℕ) → accepted (tt {0}) ≡ judged t (a ∷ b ∷ []) → {x y : ℕ} → x ≡ get_or t.facts.widths a 0
-    → y ≡ get_or t.facts.widths b 0 → (r : ℕ) → r ≡ max x y - x → accepted r ≡ pad_left_call t a b
-padding_told t a b h e f r d =
-    let k = (asked_passed t (a ∷ b ∷ []) (sym h)).1 in
+-- The padding of two nodes, from their widths as they were read from the table u, which equals the table t that was asked.
+pub padding_told : (t u : Table) → u ≡ t → (a b : ℕ) → accepted (tt {0}) ≡ judged t (a ∷ b ∷ []) → {x y : ℕ} → x ≡ width (type_at u a)
+    → y ≡ width (type_at u b) → (r : ℕ) → r ≡ max x y - x → accepted r ≡ pad_left_call t a b
+padding_told t u s a b h e f r d =
     answered t (a ∷ b ∷ []) (max (width (type_at t a)) (width (type_at t b)) - width (type_at t a)) r h
-    (d ∙ ap₂ (λ x y. max x y - x) (e ∙ sound_width t k.0.sound a k.0.here) (f ∙ sound_width t k.1.0.sound b k.1.0.here))
+    (d ∙ ap₂ (λ x y. max x y - x) (e ∙ ap (λ (v : Table). width (type_at v a)) s) (f ∙ ap (λ (v : Table). width (type_at v b)) s))
 
 pub padding_swapped : (t : Table) (a b : ℕ) → pad_left_call t b a ≡ pad_right_call t a b
 padding_swapped t a b =

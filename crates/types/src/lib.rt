@@ -2,155 +2,71 @@
 #![tactic(auto)]
 
 ghost use Rattle.std.specs.Prelude.{◌≡◌};
-ghost use Rattle.meaning.specs.Tables.{table};
 ghost use Rattle.meaning.specs.TypeCalls as calls;
 ghost use Rattle.answers.specs.Verdicts.{count_of, flag_of, sides_of, facts_of};
 
-use answers::{Count, Done, FactsAnswer, Flag, SidesAnswer};
+use answers::{Facts, Refusal, Sides};
+use tables::{Kind, Table};
 
 // Everything that the table says of a node.
-pub fn facts_of(
-    kinds: &[u8],
-    lefts: &[u16],
-    rights: &[u16],
-    groups: &[u8],
-    count: usize,
-    node: usize,
-) -> FactsAnswer
-    ensures { facts_of result ≡ calls.facts_of_call
-        (table kinds.now lefts.now rights.now groups.now count) node }
+pub fn facts_of(table: &Table<'_>, node: usize) -> Result<Facts, Refusal>
+    ensures { facts_of result ≡ calls.facts_of_call table.now node }
 {
-    let judged = checked_present::one(kinds, lefts, rights, groups, count, node);
-    if let Done::Refused(r) = judged {
-        return FactsAnswer::Refused(r);
-    }
-    FactsAnswer::Are(types_reading::facts(kinds, lefts, rights, groups, count, node))
+    let checked = checked_present::one(table, node)?;
+    Ok(types_reading::facts(&checked, node))
 }
 
 // Two nodes have the same type, which is the same class.
-pub fn same_type(
-    kinds: &[u8],
-    lefts: &[u16],
-    rights: &[u16],
-    groups: &[u8],
-    count: usize,
-    a: usize,
-    b: usize,
-) -> Flag
-    ensures { flag_of result ≡ calls.same_type_call
-        (table kinds.now lefts.now rights.now groups.now count) a b }
+pub fn same_type(table: &Table<'_>, a: usize, b: usize) -> Result<bool, Refusal>
+    ensures { flag_of result ≡ calls.same_type_call table.now a b }
 {
-    let judged = checked_present::two(kinds, lefts, rights, groups, count, a, b);
-    if let Done::Refused(r) = judged {
-        return Flag::Refused(r);
-    }
-    Flag::Is(checked_nodes::same_type(kinds, lefts, rights, groups, count, a, b))
+    let both = checked_present::two(table, a, b)?;
+    Ok(checked_nodes::same_type(&both, a, b))
 }
 
 // The type is unit.
-pub fn is_unit(
-    kinds: &[u8],
-    lefts: &[u16],
-    rights: &[u16],
-    groups: &[u8],
-    count: usize,
-    node: usize,
-) -> Flag
-    ensures { flag_of result ≡ calls.is_unit_call
-        (table kinds.now lefts.now rights.now groups.now count) node }
+pub fn is_unit(table: &Table<'_>, node: usize) -> Result<bool, Refusal>
+    ensures { flag_of result ≡ calls.is_unit_call table.now node }
 {
-    match facts_of(kinds, lefts, rights, groups, count, node) {
-        FactsAnswer::Refused(r) => Flag::Refused(r),
-        FactsAnswer::Are(f) => Flag::Is(f.kind == 0),
-    }
+    let facts = facts_of(table, node)?;
+    Ok(facts.kind == Kind::Unit)
 }
 
 // The type has no width.
-pub fn is_empty(
-    kinds: &[u8],
-    lefts: &[u16],
-    rights: &[u16],
-    groups: &[u8],
-    count: usize,
-    node: usize,
-) -> Flag
-    ensures { flag_of result ≡ calls.is_empty_call
-        (table kinds.now lefts.now rights.now groups.now count) node }
+pub fn is_empty(table: &Table<'_>, node: usize) -> Result<bool, Refusal>
+    ensures { flag_of result ≡ calls.is_empty_call table.now node }
 {
-    match facts_of(kinds, lefts, rights, groups, count, node) {
-        FactsAnswer::Refused(r) => Flag::Refused(r),
-        FactsAnswer::Are(f) => Flag::Is(f.width == 0),
-    }
+    let facts = facts_of(table, node)?;
+    Ok(facts.width == 0)
 }
 
 // The sides of a sum.
-pub fn as_sum(
-    kinds: &[u8],
-    lefts: &[u16],
-    rights: &[u16],
-    groups: &[u8],
-    count: usize,
-    node: usize,
-) -> SidesAnswer
-    ensures { sides_of result ≡ calls.type_as_sum_call
-        (table kinds.now lefts.now rights.now groups.now count) node }
+pub fn as_sum(table: &Table<'_>, node: usize) -> Result<Sides, Refusal>
+    ensures { sides_of result ≡ calls.type_as_sum_call table.now node }
 {
-    match facts_of(kinds, lefts, rights, groups, count, node) {
-        FactsAnswer::Refused(r) => SidesAnswer::Refused(r),
-        FactsAnswer::Are(f) => types_reading::sides_if(f, 1),
-    }
+    let facts = facts_of(table, node)?;
+    types_reading::sides_if(facts, Kind::Sum)
 }
 
 // The sides of a product.
-pub fn as_product(
-    kinds: &[u8],
-    lefts: &[u16],
-    rights: &[u16],
-    groups: &[u8],
-    count: usize,
-    node: usize,
-) -> SidesAnswer
-    ensures { sides_of result ≡ calls.type_as_product_call
-        (table kinds.now lefts.now rights.now groups.now count) node }
+pub fn as_product(table: &Table<'_>, node: usize) -> Result<Sides, Refusal>
+    ensures { sides_of result ≡ calls.type_as_product_call table.now node }
 {
-    match facts_of(kinds, lefts, rights, groups, count, node) {
-        FactsAnswer::Refused(r) => SidesAnswer::Refused(r),
-        FactsAnswer::Are(f) => types_reading::sides_if(f, 2),
-    }
+    let facts = facts_of(table, node)?;
+    types_reading::sides_if(facts, Kind::Product)
 }
 
 // The padding of left records of the sum of two types.
-pub fn pad_left(
-    kinds: &[u8],
-    lefts: &[u16],
-    rights: &[u16],
-    groups: &[u8],
-    count: usize,
-    a: usize,
-    b: usize,
-) -> Count
-    ensures { count_of result ≡ calls.pad_left_call
-        (table kinds.now lefts.now rights.now groups.now count) a b }
+pub fn pad_left(table: &Table<'_>, a: usize, b: usize) -> Result<usize, Refusal>
+    ensures { count_of result ≡ calls.pad_left_call table.now a b }
 {
-    let judged = checked_present::two(kinds, lefts, rights, groups, count, a, b);
-    if let Done::Refused(r) = judged {
-        return Count::Refused(r);
-    }
-    Count::Is(types_reading::padding(groups::width_at(groups, a), groups::width_at(groups, b)))
+    let checked = checked_present::two(table, a, b)?;
+    Ok(types_reading::padding(checked.width(a), checked.width(b)))
 }
 
 // The padding of right records of the sum of two types: that of left records of the sum the other way round.
-pub fn pad_right(
-    kinds: &[u8],
-    lefts: &[u16],
-    rights: &[u16],
-    groups: &[u8],
-    count: usize,
-    a: usize,
-    b: usize,
-) -> Count
-    ensures { count_of result ≡ calls.pad_right_call
-        (table kinds.now lefts.now rights.now groups.now count) a b }
+pub fn pad_right(table: &Table<'_>, a: usize, b: usize) -> Result<usize, Refusal>
+    ensures { count_of result ≡ calls.pad_right_call table.now a b }
 {
-    pad_left(kinds, lefts, rights, groups, count, b, a)
+    pad_left(table, b, a)
 }

@@ -1,4 +1,5 @@
 -- The laws of the calls on records.
+pub mod Answered
 pub mod Equality
 pub mod OwnBits
 pub mod OwnViews

@@ -29,7 +29,6 @@ use Rattle.checked.specs.Passed.{Named, Held}
 use Rattle.checked.proofs.Passed.{handed_passed}
 use Rattle.checked.proofs.Passes.{held_passes}
 use Rattle.checked.proofs.Made.{accepts, written_bits}
-use Rattle.checked.proofs.Nodes.{before_payload}
 use Rattle.checked.proofs.Shaped.{shape_accepted}
 use Rattle.checked.specs.Sides.{side_type, padding, says, wrapped}
 use Rattle.value_views.specs.Views.{payload_spot, payload_rungs, parts_spots, parts_rungs}
@@ -94,9 +93,9 @@ wrap_again g t p c out h k l =
       seen =
           ladder_pass (handed t (m ∷ []) []) (payload_rungs g t m) (tt {0}) (tt {0}) (payload_spot g t m) (held_passes t m hm)
           ∙ sym (payload_seen g t m (omega (arith, nc.narrow)) l_side r_side tree (ap (λ (u : List Bool). says g (tag u)) b ∙ wrapped_tag g x (record_bits t p))
-          (1 + padding g x)
+          (payload_spot g t m).offset
           (payload_spot g t m).node
-          (before_payload g x l_side r_side tree)
+          refl
           refl);
       types = sh.type_is ∙ e;
       bits_are = sh.bits_are ∙ ap (drop (1 + padding g x)) b ∙ wrapped_payload g x (record_bits t p);

@@ -1,5 +1,6 @@
 // Records: views, equality and order, and constructors, over lent bytes. A record is bytes, a bit offset and a node of the table; its bits are
 // the next width bits, from the top of each byte.
+// They are handed as a slice and numbers and not as one struct: the C interface hands them so, and the struct of crate `view` calls these.
 // The calls that this file names are the crate's interface. None expects anything of its input: each runs its whole ladder of refusals in the
 // order of their numbers, then acts through one inner function that relies on what was checked. A refusal changes no byte.
 #![tactic(auto)]

@@ -1,2 +1,3 @@
--- The laws of orders.
+-- The laws of orders, and of records compared.
+pub mod Compared
 pub mod Orders

@@ -1,16 +1,17 @@
 // Views: the caller's bytes by reference, with a bit offset and a node. A sub-view keeps the bytes and moves offset and node only.
-// Each function over a view takes it apart and calls one on slice and numbers. A caller that keeps no view calls those, or `left_spot`.
+// Each question to a view takes it apart and calls one on slice and numbers. A caller that keeps no view calls those, or `left_spot`.
 // Assumes nothing of its input, and refuses what the function that it calls refuses.
 #![tactic(auto)]
 
-ghost use Rattle.std.specs.Prelude.{◌≡◌};
-ghost use Rattle.meaning.specs.Tables.{table};
+ghost use Rattle.std.specs.Prelude.{◌≡◌, IfOk};
 ghost use Rattle.meaning.specs.Ladder.{record_of};
 ghost use Rattle.meaning.specs.RecordCalls as calls;
 ghost use Rattle.meaning.specs.TypeCalls.{is_unit_call};
-ghost use Rattle.answers.specs.Verdicts.{spot_of, spots_of, flag_of};
+ghost use Rattle.answers.specs.Verdicts.{flag_of, spot_of};
+ghost use Rattle.view.specs.Views.{view_of, views_of};
 
-use answers::{Flag, Spot, SpotAnswer, SpotsAnswer};
+use answers::{Refusal, Spot};
+use tables::Table;
 
 // A record: the caller's bytes, by reference, a bit offset and a node.
 #[derive(Clone, Copy)]
@@ -20,150 +21,101 @@ pub struct View<'a> {
     pub node: usize,
 }
 
-// What a view of one side answers: the view's own bytes, and beside them where the sub-view stands in them, or a refusal.
-#[derive(Clone, Copy)]
-pub struct Sub<'a> {
-    pub bytes: &'a [u8],
-    pub at: SpotAnswer,
-}
-
-// The same for two sides.
-#[derive(Clone, Copy)]
-pub struct Subs<'a> {
-    pub bytes: &'a [u8],
-    pub at: SpotsAnswer,
-}
-
-// The view of a record.
-pub fn new<'a>(bytes: &'a [u8], offset: usize, node: usize) -> View<'a>
-    ensures { (result.bytes ≡ bytes.entry) × (result.offset ≡ offset) × (result.node ≡ node) }
-{
-    View {
-        bytes,
-        offset,
-        node,
+impl<'a> View<'a> {
+    // The view of a record.
+    pub fn new(bytes: &'a [u8], offset: usize, node: usize) -> View<'a>
+        ensures { (result.bytes ≡ bytes.entry) × (result.offset ≡ offset) × (result.node ≡ node) }
+    {
+        View {
+            bytes,
+            offset,
+            node,
+        }
     }
-}
 
-// Back to plain parts: the bytes.
-pub fn bytes<'a>(v: View<'a>) -> &'a [u8]
-    ensures { result ≡ v.entry.bytes }
-{
-    v.bytes
-}
-
-// Back to plain parts: offset and node.
-pub fn spot<'a>(v: View<'a>) -> Spot
-    ensures { (result.offset ≡ v.entry.offset) × (result.node ≡ v.entry.node) }
-{
-    Spot {
-        offset: v.offset,
-        node: v.node,
+    // Back to plain parts: the bytes.
+    pub fn bytes(self) -> &'a [u8]
+        ensures { result ≡ self.entry.bytes }
+    {
+        self.bytes
     }
-}
 
-// Whether the type is unit: a question on the type alone.
-pub fn is_unit<'a>(
-    kinds: &[u8],
-    lefts: &[u16],
-    rights: &[u16],
-    groups: &[u8],
-    count: usize,
-    v: View<'a>,
-) -> Flag
-    ensures { flag_of result ≡ is_unit_call (table kinds.now lefts.now rights.now groups.now count) v.entry.node }
-{
-    types::is_unit(kinds, lefts, rights, groups, count, v.node)
-}
+    // Back to plain parts: offset and node.
+    pub fn spot(self) -> Spot
+        ensures { (result.offset ≡ self.entry.offset) × (result.node ≡ self.entry.node) }
+    {
+        Spot {
+            offset: self.offset,
+            node: self.node,
+        }
+    }
 
-// The payload of a left record.
-pub fn as_left<'a>(
-    kinds: &[u8],
-    lefts: &[u16],
-    rights: &[u16],
-    groups: &[u8],
-    count: usize,
-    v: View<'a>,
-) -> Sub<'a>
-    ensures { (result.bytes ≡ v.entry.bytes) × (spot_of result.at ≡ calls.as_left_call (table kinds.now lefts.now rights.now groups.now count) (record_of v.entry.bytes.now v.entry.offset v.entry.node)) }
-{
-    let at = value::as_left(
-        kinds, lefts, rights, groups, count, v.bytes, v.offset, v.node,
-    );
-    Sub { bytes: v.bytes, at }
-}
+    // What stands elsewhere in the same bytes.
+    fn at(self, spot: Spot) -> View<'a>
+        ensures { (result.bytes ≡ self.entry.bytes) × (result.offset ≡ spot.offset) × (result.node ≡ spot.node) }
+    {
+        View::new(self.bytes, spot.offset, spot.node)
+    }
 
-// The payload of a right record.
-pub fn as_right<'a>(
-    kinds: &[u8],
-    lefts: &[u16],
-    rights: &[u16],
-    groups: &[u8],
-    count: usize,
-    v: View<'a>,
-) -> Sub<'a>
-    ensures { (result.bytes ≡ v.entry.bytes) × (spot_of result.at ≡ calls.as_right_call (table kinds.now lefts.now rights.now groups.now count) (record_of v.entry.bytes.now v.entry.offset v.entry.node)) }
-{
-    let at = value::as_right(
-        kinds, lefts, rights, groups, count, v.bytes, v.offset, v.node,
-    );
-    Sub { bytes: v.bytes, at }
-}
+    // Whether the type is unit: a question on the type alone.
+    pub fn is_unit(self, table: &Table<'_>) -> Result<bool, Refusal>
+        ensures { flag_of result ≡ is_unit_call table.now self.entry.node }
+    {
+        types::is_unit(table, self.node)
+    }
 
-// The two parts of a product.
-pub fn as_product<'a>(
-    kinds: &[u8],
-    lefts: &[u16],
-    rights: &[u16],
-    groups: &[u8],
-    count: usize,
-    v: View<'a>,
-) -> Subs<'a>
-    ensures { (result.bytes ≡ v.entry.bytes) × (spots_of result.at ≡ calls.as_product_call (table kinds.now lefts.now rights.now groups.now count) (record_of v.entry.bytes.now v.entry.offset v.entry.node)) }
-{
-    let at = value::as_product(
-        kinds, lefts, rights, groups, count, v.bytes, v.offset, v.node,
-    );
-    Subs { bytes: v.bytes, at }
-}
+    // The payload of a left record.
+    pub fn as_left(self, table: &Table<'_>) -> Result<View<'a>, Refusal>
+        ensures same_bytes { IfOk result (λ left. left.bytes ≡ self.entry.bytes) }
+        ensures place { view_of result ≡ calls.as_left_call table.now (record_of self.entry.bytes.now self.entry.offset self.entry.node) }
+    {
+        let spot = value::as_left(table, self.bytes, self.offset, self.node)?;
+        Ok(self.at(spot))
+    }
 
-// Whether two records are equal: the same class, and the same width bits.
-pub fn equal<'a, 'b>(
-    kinds: &[u8],
-    lefts: &[u16],
-    rights: &[u16],
-    groups: &[u8],
-    count: usize,
-    a: View<'a>,
-    b: View<'b>,
-) -> Flag
-    ensures { flag_of result ≡ calls.equal_call (table kinds.now lefts.now rights.now groups.now count) (record_of a.entry.bytes.now a.entry.offset a.entry.node) (record_of b.entry.bytes.now b.entry.offset b.entry.node) }
-{
-    value::equal(
-        kinds, lefts, rights, groups, count, a.bytes, a.offset, a.node, b.bytes, b.offset, b.node,
-    )
+    // The payload of a right record.
+    pub fn as_right(self, table: &Table<'_>) -> Result<View<'a>, Refusal>
+        ensures same_bytes { IfOk result (λ right. right.bytes ≡ self.entry.bytes) }
+        ensures place { view_of result ≡ calls.as_right_call table.now (record_of self.entry.bytes.now self.entry.offset self.entry.node) }
+    {
+        let spot = value::as_right(table, self.bytes, self.offset, self.node)?;
+        Ok(self.at(spot))
+    }
+
+    // The two parts of a product.
+    pub fn as_product(self, table: &Table<'_>) -> Result<(View<'a>, View<'a>), Refusal>
+        ensures same_bytes { IfOk result (λ parts. (parts.0.bytes ≡ self.entry.bytes) × (parts.1.bytes ≡ self.entry.bytes)) }
+        ensures places { views_of result ≡ calls.as_product_call table.now (record_of self.entry.bytes.now self.entry.offset self.entry.node) }
+    {
+        let (first, second) = value::as_product(table, self.bytes, self.offset, self.node)?;
+        Ok((self.at(first), self.at(second)))
+    }
+
+    // Whether two records are equal: the same class, and the same width bits.
+    pub fn equal(self, table: &Table<'_>, other: View<'_>) -> Result<bool, Refusal>
+        ensures { flag_of result ≡ calls.equal_call table.now (record_of self.entry.bytes.now self.entry.offset self.entry.node) (record_of other.entry.bytes.now other.entry.offset other.entry.node) }
+    {
+        value::equal(
+            table,
+            self.bytes,
+            self.offset,
+            self.node,
+            other.bytes,
+            other.offset,
+            other.node,
+        )
+    }
 }
 
 // For callers that keep no view: where the payload of a left record stands, by way of its view.
 pub fn left_spot(
-    kinds: &[u8],
-    lefts: &[u16],
-    rights: &[u16],
-    groups: &[u8],
-    count: usize,
+    table: &Table<'_>,
     bytes: &[u8],
     offset: usize,
     node: usize,
-) -> SpotAnswer
-    ensures { spot_of result ≡ calls.as_left_call (table kinds.now lefts.now rights.now groups.now count) (record_of bytes.now offset node) }
+) -> Result<Spot, Refusal>
+    ensures { spot_of result ≡ calls.as_left_call table.now (record_of bytes.now offset node) }
 {
-    as_left(
-        kinds,
-        lefts,
-        rights,
-        groups,
-        count,
-        new(bytes, offset, node),
-    )
-    .at
+    let payload = View::new(bytes, offset, node).as_left(table)?;
+    Ok(payload.spot())
 }

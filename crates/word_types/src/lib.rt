@@ -3,93 +3,55 @@
 #![tactic(auto)]
 
 ghost use Rattle.std.specs.Prelude.{◌≡◌};
-ghost use Rattle.meaning.specs.Tables.{table};
 ghost use Rattle.meaning.specs.TypeCalls as calls;
 ghost use Rattle.answers.specs.Verdicts.{count_of, flag_of};
 
-use answers::{Count, Done, Flag};
+use answers::Refusal;
+use tables::Table;
 
 // The n of a word type; any other type has the wrong shape.
-pub fn as_word(
-    kinds: &[u8],
-    lefts: &[u16],
-    rights: &[u16],
-    groups: &[u8],
-    count: usize,
-    node: usize,
-) -> Count
-    ensures { count_of result ≡ calls.as_word_call
-        (table kinds.now lefts.now rights.now groups.now count) node }
+pub fn as_word(table: &Table<'_>, node: usize) -> Result<usize, Refusal>
+    ensures { count_of result ≡ calls.as_word_call table.now node }
 {
-    let judged = checked_present::one(kinds, lefts, rights, groups, count, node);
-    if let Done::Refused(r) = judged {
-        return Count::Refused(r);
-    }
-    let n = shapes::word_of(kinds, lefts, rights, groups, count, node);
-    if shapes::NO_WORD <= n {
-        return Count::Refused(answers::WRONG_SHAPE);
-    }
-    Count::Is(n)
+    let checked = checked_present::one(table, node)?;
+    shapes::word_of(&checked, node).ok_or(Refusal::WrongShape)
 }
 
 // The width of word type n.
-pub fn word_width(n: usize) -> Count
+pub fn word_width(n: usize) -> Result<usize, Refusal>
     ensures { count_of result ≡ calls.word_width_call n }
 {
-    if 32 <= n {
-        return Count::Refused(answers::OUT_OF_RANGE);
+    if shapes::WORDS <= n {
+        return Err(Refusal::OutOfRange);
     }
-    Count::Is(shapes::word_width(n) as usize)
+    Ok(shapes::word_width(n) as usize)
 }
 
 // The width of buffer type n.
-pub fn buffer_width(n: usize) -> Count
+pub fn buffer_width(n: usize) -> Result<usize, Refusal>
     ensures { count_of result ≡ calls.buffer_width_call n }
 {
-    if 13 <= n {
-        return Count::Refused(answers::OUT_OF_RANGE);
+    if shapes::BUFFERS <= n {
+        return Err(Refusal::OutOfRange);
     }
-    Count::Is(shapes::buffer_width(n) as usize)
+    Ok(shapes::buffer_width(n) as usize)
 }
 
 // The type is buffer type n.
-pub fn is_buffer8(
-    kinds: &[u8],
-    lefts: &[u16],
-    rights: &[u16],
-    groups: &[u8],
-    count: usize,
-    node: usize,
-    n: usize,
-) -> Flag
-    ensures { flag_of result ≡ calls.is_buffer8_call
-        (table kinds.now lefts.now rights.now groups.now count) node n }
+pub fn is_buffer8(table: &Table<'_>, node: usize, n: usize) -> Result<bool, Refusal>
+    ensures { flag_of result ≡ calls.is_buffer8_call table.now node n }
 {
-    let judged = checked_present::one(kinds, lefts, rights, groups, count, node);
-    if let Done::Refused(r) = judged {
-        return Flag::Refused(r);
+    let checked = checked_present::one(table, node)?;
+    if shapes::BUFFERS <= n {
+        return Err(Refusal::OutOfRange);
     }
-    if 13 <= n {
-        return Flag::Refused(answers::OUT_OF_RANGE);
-    }
-    Flag::Is(shapes::is_buffer(kinds, lefts, rights, groups, count, node, n))
+    Ok(shapes::is_buffer(&checked, node, n))
 }
 
 // The type is the hash state's.
-pub fn is_ctx8(
-    kinds: &[u8],
-    lefts: &[u16],
-    rights: &[u16],
-    groups: &[u8],
-    count: usize,
-    node: usize,
-) -> Flag
-    ensures { flag_of result ≡ calls.is_ctx8_call
-        (table kinds.now lefts.now rights.now groups.now count) node }
+pub fn is_ctx8(table: &Table<'_>, node: usize) -> Result<bool, Refusal>
+    ensures { flag_of result ≡ calls.is_ctx8_call table.now node }
 {
-    let judged = checked_present::one(kinds, lefts, rights, groups, count, node);
-    if let Done::Refused(r) = judged {
-        return Flag::Refused(r);
-    }
-    Flag::Is(shapes::is_ctx8(kinds, lefts, rights, groups, count, node))
+    let checked = checked_present::one(table, node)?;
+    Ok(shapes::is_ctx8(&checked, node))
 }

@@ -2,80 +2,56 @@
 // Inner: the public call says which word.
 #![tactic(auto)]
 
-ghost use Rattle.std.specs.Prelude.{◌≡◌, true, ◌*◌, ◌^◌, ◌<◌, ◌≤◌, length};
-ghost use Rattle.meaning.specs.Tables.{table};
+ghost use Rattle.std.specs.Prelude.{◌≡◌, ◌*◌, ◌^◌, ◌<◌, ◌≤◌, length, IfSome};
 ghost use Rattle.meaning.specs.Bits.{bits_of};
-ghost use Rattle.meaning.specs.Words.{is_word};
-ghost use Rattle.meaning.specs.Ladder.{type_at, makes, made};
-ghost use Rattle.meaning.specs.WordCalls.{from_range, bytes_call, bytes_out};
+ghost use Rattle.meaning.specs.Ladder.{makes, made};
+ghost use Rattle.meaning.specs.WordCalls.{bytes_call, bytes_out};
 ghost use Rattle.answers.specs.Verdicts.{count_of};
+ghost use Rattle.words_bytes.specs.Chosen.{chosen_rungs};
 
-use answers::{Count, Done};
+use answers::Refusal;
 use checked_writers::write_run;
+use tables::Table;
 
-// A word of bytes that are as many as the word asks, or not: `fits` says which.
+// A word of bytes: the word that has as many bytes, if there is one.
 pub fn bytes_word(
-    kinds: &[u8],
-    lefts: &[u16],
-    rights: &[u16],
-    groups: &[u8],
-    count: usize,
-    n: usize,
-    fits: bool,
+    table: &Table<'_>,
+    word: Option<usize>,
     bytes: &[u8],
     res: usize,
     out: &mut [u8],
-) -> Count
-    requires { fits ≡ true → 8 * length bytes.now ≡ 2 ^ n }
-    ensures result_value { count_of result ≡ makes (from_range (table kinds.now lefts.now rights.now groups.now count) res fits (is_word n (type_at (table kinds.now lefts.now rights.now groups.now count) res))) (bits_of bytes.now) out.old }
-    ensures out_after { out.new ≡ made (from_range (table kinds.now lefts.now rights.now groups.now count) res fits (is_word n (type_at (table kinds.now lefts.now rights.now groups.now count) res))) (bits_of bytes.now) out.old }
+) -> Result<usize, Refusal>
+    requires { IfSome word (λ n. 8 * length bytes.now ≡ 2 ^ n) }
+    ensures result_value { count_of result ≡ makes (chosen_rungs table.now word res) (bits_of bytes.now) out.old }
+    ensures out_after { out.new ≡ made (chosen_rungs table.now word res) (bits_of bytes.now) out.old }
 {
-    let judged = checked_rungs::named(kinds, lefts, rights, groups, count, res);
-    if let Done::Refused(r) = judged {
-        return Count::Refused(r);
-    }
-    if !fits {
-        return Count::Refused(answers::OUT_OF_RANGE);
-    }
-    if !shapes::is_word(kinds, lefts, rights, groups, count, res, n) {
-        return Count::Refused(answers::WRONG_SHAPE);
+    let checked = checked_rungs::named(table, res)?;
+    let n = word.ok_or(Refusal::OutOfRange)?;
+    if !shapes::is_word(&checked, res, n) {
+        return Err(Refusal::WrongShape);
     }
     if out.len() < bytes.len() {
-        return Count::Refused(answers::NO_ROOM);
+        return Err(Refusal::NoRoom);
     }
     let width = 8 * bytes.len();
     write_run(out, bytes, 0, width);
-    Count::Is(width)
+    Ok(width)
 }
 
 // A word of 2^(n − 3) bytes.
 pub fn fixed_word(
-    kinds: &[u8],
-    lefts: &[u16],
-    rights: &[u16],
-    groups: &[u8],
-    count: usize,
+    table: &Table<'_>,
     n: usize,
     bytes: &[u8],
     res: usize,
     out: &mut [u8],
-) -> Count
+) -> Result<usize, Refusal>
     requires le_n { 3 ≤ n }
     requires n_bound { n < 32 }
-    ensures result_value { count_of result ≡ bytes_call (table kinds.now lefts.now rights.now groups.now count) n bytes.now res out.old }
-    ensures out_after { out.new ≡ bytes_out (table kinds.now lefts.now rights.now groups.now count) n bytes.now res out.old }
+    ensures result_value { count_of result ≡ bytes_call table.now n bytes.now res out.old }
+    ensures out_after { out.new ≡ bytes_out table.now n bytes.now res out.old }
 {
     let asked = shapes::word_width(n - 3) as usize;
-    bytes_word(
-        kinds,
-        lefts,
-        rights,
-        groups,
-        count,
-        n,
-        bytes.len() == asked,
-        bytes,
-        res,
-        out,
-    )
+    let word = (bytes.len() == asked).then_some(n);
+    bytes_word(table, word, bytes, res, out)
 }

@@ -2,12 +2,11 @@
 --
 --   join_types                  a word twice, and the next word
 --   join_width                  a word is not empty
---   unjoined joined             the width that a join is asked for: 0 exactly where the types do not join
---   first_width second_width whole_width    where they join, that of the first word and of the second, and half of the next
+--   second_width whole_width    the second word is as wide as the first, and the next twice as wide
 -- Assumes nothing.
 use Prim.Native.Nat.{ℕ, suc, ◌+◌, ◌^◌, ◌<◌}
-use mathlib.Core.Path.{◌≡◌, refl, sym, ap, ap₂, ◌∙◌}
-use mathlib.Core.Bool.{Bool, true, false, cond, ◌&&◌}
+use mathlib.Core.Path.{◌≡◌, sym, ap, ap₂, ◌∙◌}
+use mathlib.Core.Bool.{true, ◌&&◌}
 use native.Mathlib.Omega.{arith}
 use lib.Dec.{ltb}
 use lib.Pow.{pow_pos}
@@ -44,31 +43,10 @@ join_width a b c h =
     let p = pow_pos (as_word a) in
     omega arith
 
--- The width is that of the first type where the types join, and 0 where they do not.
-module _ (a b c : Ty) (w : ℕ) (e : w ≡ cond (joins a b c) (bits a) 0) where
-  pub unjoined : w ≡ 0 → joins a b c ≡ false
-  unjoined z = by_test (joins a b c) refl
-    where
-      by_test : (j : Bool) → joins a b c ≡ j → joins a b c ≡ false
-      by_test false h = h
-      by_test true h =
-          let p = join_width a b c h in
-          let f : w ≡ bits a = e ∙ ap (λ (j : Bool). cond j (bits a) 0) h in
-          absurd (omega arith)
+-- Both words of a join are as wide, and the whole twice as wide.
+module _ (a b c : Ty) (h : joins a b c ≡ true) where
+  pub second_width : bits a ≡ bits b
+  second_width = ap bits (join_types a b c h).0
 
-  pub joined : (w ≡ 0 → ⊥) → joins a b c ≡ true
-  joined z = by_test (joins a b c) refl
-    where
-      by_test : (j : Bool) → joins a b c ≡ j → joins a b c ≡ true
-      by_test true h = h
-      by_test false h = absurd (z (e ∙ ap (λ (j : Bool). cond j (bits a) 0) h))
-
-  module _ (h : joins a b c ≡ true) where
-    pub first_width : w ≡ bits a
-    first_width = e ∙ ap (λ (j : Bool). cond j (bits a) 0) h
-
-    pub second_width : w ≡ bits b
-    second_width = first_width ∙ ap bits (join_types a b c h).0
-
-    pub whole_width : w + w ≡ bits c
-    whole_width = ap₂ ◌+◌ first_width second_width ∙ sym (ap bits (join_types a b c h).1 ∙ bits_prod a b)
+  pub whole_width : bits a + bits a ≡ bits c
+  whole_width = ap (λ (w : ℕ). bits a + w) second_width ∙ sym (ap bits (join_types a b c h).1 ∙ bits_prod a b)

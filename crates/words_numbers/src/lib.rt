@@ -3,13 +3,13 @@
 #![tactic(auto)]
 
 ghost use Rattle.std.specs.Prelude.{◌≡◌, ◌<◌, ◌≤◌};
-ghost use Rattle.meaning.specs.Tables.{table};
 ghost use Rattle.meaning.specs.Bits.{to_bits, written};
 ghost use Rattle.meaning.specs.WordCalls.{number_call, number_out};
 ghost use Rattle.answers.specs.Verdicts.{count_of};
 ghost use Rattle.bits.specs.Runs.{Run};
 
-use answers::{Count, Done};
+use answers::Refusal;
+use tables::Table;
 
 // The n lowest bits of a number, the top one first.
 fn write_number(out: &mut [u8], x: u64, n: usize)
@@ -23,34 +23,27 @@ fn write_number(out: &mut [u8], x: u64, n: usize)
 
 // Word type n of a number, for n of 0 to 2.
 pub fn number_word(
-    kinds: &[u8],
-    lefts: &[u16],
-    rights: &[u16],
-    groups: &[u8],
-    count: usize,
+    table: &Table<'_>,
     n: usize,
     number: u64,
     res: usize,
     out: &mut [u8],
-) -> Count
+) -> Result<usize, Refusal>
     requires { n < 3 }
-    ensures result_value { count_of result ≡ number_call (table kinds.now lefts.now rights.now groups.now count) n number res out.old }
-    ensures out_after { out.new ≡ number_out (table kinds.now lefts.now rights.now groups.now count) n number res out.old }
+    ensures result_value { count_of result ≡ number_call table.now n number res out.old }
+    ensures out_after { out.new ≡ number_out table.now n number res out.old }
 {
-    let judged = checked_rungs::named(kinds, lefts, rights, groups, count, res);
-    if let Done::Refused(r) = judged {
-        return Count::Refused(r);
-    }
+    let checked = checked_rungs::named(table, res)?;
     let width = shapes::word_width(n) as usize;
     if number >> width != 0 {
-        return Count::Refused(answers::OUT_OF_RANGE);
+        return Err(Refusal::OutOfRange);
     }
-    if !shapes::is_word(kinds, lefts, rights, groups, count, res, n) {
-        return Count::Refused(answers::WRONG_SHAPE);
+    if !shapes::is_word(&checked, res, n) {
+        return Err(Refusal::WrongShape);
     }
     if out.len() < bits::bytes_for(width) {
-        return Count::Refused(answers::NO_ROOM);
+        return Err(Refusal::NoRoom);
     }
     write_number(out, number, width);
-    Count::Is(width)
+    Ok(width)
 }

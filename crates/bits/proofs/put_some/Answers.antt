@@ -1,20 +1,13 @@
 -- `bits::put_some` meets its contract: one byte changes, in the run's bits alone. Assumes nothing.
-use mathlib.Core.Path.{◌≡◌, ap, ◌∙◌, subst}
+use mathlib.Core.Path.{◌≡◌, ap, ◌∙◌}
 use Prim.Native.Nat.{ℕ, ◌+◌, ◌-◌, ◌*◌, ◌/◌, ◌%◌}
 use native.Mathlib.Omega.{arith}
 use lib.ListN.{get_or}
-use lib.Seq.{paste, paste-zero}
+use lib.Seq.{paste}
 use borrow.Author.Rules.{rules}
 use Rattle.meaning.specs.Bits.{bits_of, to_bits}
 use Rattle.bits.proofs.Stores.{set_part}
 use Rattle.bits.proofs.put_some.Goals as goal
-
-pub returns-then-n-eq0 : goal.returns-then-n-eq0
-returns-then-n-eq0 c =
-    let a = c.args in
-    let none : 0 ≡ a.n = omega arith in
-    subst (λ (k : ℕ). bits_of a.d.now ≡ paste (bits_of a.d.now) a.at (to_bits k a.x) k) none
-    (paste-zero (bits_of a.d.now) a.at (to_bits 0 a.x))
 
 pub returns : goal.returns
 returns c =

@@ -5,7 +5,7 @@ use Prim.Native.Nat.{ℕ, suc, ◌+◌, ◌-◌, ◌*◌, ◌/◌, ◌%◌, ◌^
 use native.Mathlib.Nat.{mod-eq_of_lt}
 use native.Mathlib.Omega.{arith}
 use lib.ListN.{set}
-use lib.Pow.{split, shr_le}
+use lib.Pow.{split}
 use mir.Val.{bool_byte}
 use Rattle.meaning.specs.Bits.{bit, to_bits}
 use Rattle.bits.proofs.Numbers.{to_bits_put, put_below}
@@ -26,13 +26,6 @@ module _ (x k : ℕ) (b : Bool) (hx : x < 256) (hk : k < 8) where
       go true = omega arith
       go false = omega arith
 
-  next_fits : x / 2 ^ k - x / 2 ^ k % 2 + bool_byte b < 256
-  next_fits = go b
-    where
-      go : (c : Bool) → x / 2 ^ k - x / 2 ^ k % 2 + bool_byte c < 256
-      go true = omega (arith, shr_le x k)
-      go false = omega (arith, shr_le x k)
-
   eight : 7 - k + suc k ≡ 8
   eight = omega arith
 
@@ -49,14 +42,6 @@ module _ (x k : ℕ) (b : Bool) (hx : x < 256) (hk : k < 8) where
   right : to_bits 8 put ≡ set (to_bits 8 x) (7 - k) b
   unfolding put
   right = subst (λ (i : ℕ). to_bits i put ≡ set (to_bits i x) (7 - k) b) eight (to_bits_put (7 - k) k x b)
-
-pub overflow_sub-low : goal.overflow_sub-low
-overflow_sub-low c =
-    let a = c.args in omega (arith, split a.x a.k, kept a.x a.k a.b c.ranges.x.fits c.requires)
-
-pub overflow_add-result : goal.overflow_add-result
-overflow_add-result c =
-    let a = c.args in record { fits = next_fits a.x a.k a.b c.ranges.x.fits c.requires }
 
 pub overflow_add-result-2 : goal.overflow_add-result-2
 overflow_add-result-2 c =

@@ -3,9 +3,8 @@ use mathlib.Core.Path.{◌≡◌, sym, ap, ap₂, ◌∙◌, subst}
 use Prim.Native.Nat.{ℕ, ◌+◌, ◌-◌, ◌*◌, ◌/◌, ◌%◌, ◌^◌, ◌≤◌, ◌<◌}
 use native.Mathlib.Nat.{one-mul}
 use native.Mathlib.Omega.{arith}
-use lib.Pow.{pow_pos, pow_mono, shl_exact}
+use lib.Pow.{shl_exact}
 use lib.Seq.{paste}
-use borrow.Author.Rules.{rules}
 use Rattle.meaning.specs.Bits.{to_bits}
 use Rattle.bits.proofs.Parts.{to_bits_replaced, upper_below, joined_below, replaced_below}
 use Rattle.bits.proofs.with_bits.Goals as goal
@@ -13,9 +12,6 @@ use Rattle.bits.proofs.with_bits.Goals as goal
 -- The divisor that leaves the k lowest bits.
 power : (k : ℕ) → k ≤ 8 → 1 * 2 ^ k % 2 ^ 64 ≡ 2 ^ k
 power k h = shl_exact {a = 1} 1 k 64 (omega arith) (omega arith) ∙ one-mul (2 ^ k)
-
-divisor : (k : ℕ) → k ≤ 8 → 0 < 1 * 2 ^ k % 2 ^ 64
-divisor k h = subst (λ (y : ℕ). 0 < y) (sym (power k h)) (pow_pos k)
 
 -- m bits stand above the n that are replaced, and k below them.
 module _ (old x n k : ℕ) (fits : old < 256) (h : n + k ≤ 8) where
@@ -41,11 +37,6 @@ module _ (old x n k : ℕ) (fits : old < 256) (h : n + k ≤ 8) where
       (shl_exact m n 64 (upper_below m n k old x wide) (omega arith))
       (power n (omega arith))
 
-  joined_fits : joined < 256
-  joined_fits =
-      let l : m + n ≤ 8 = omega arith in
-      omega (arith, joined_below m n k old x wide, pow_mono {i = m + n} {j = 8} l)
-
   replaced_is : (old / 2 ^ (n + k) * 2 ^ n % 2 ^ 64 + x % (1 * 2 ^ n % 2 ^ 64)) * 2 ^ k % 2 ^ 64 + old % (1 * 2 ^ k % 2 ^ 64) ≡ replaced
   replaced_is =
       ap₂ (λ (y d : ℕ). y * 2 ^ k % 2 ^ 64 + old % d) joined_is (power k (omega arith))
@@ -56,32 +47,6 @@ module _ (old x n k : ℕ) (fits : old < 256) (h : n + k ≤ 8) where
 
   right : to_bits 8 replaced ≡ paste (to_bits 8 old) m (to_bits n x) n
   right = subst (λ (i : ℕ). to_bits i replaced ≡ paste (to_bits i old) m (to_bits n x) n) eight (to_bits_replaced m n k old x)
-
-pub nonzero_rem-middle : goal.nonzero_rem-middle
-nonzero_rem-middle c =
-    divisor c.args.n (search rules)
-
-pub nonzero_rem-lower : goal.nonzero_rem-lower
-nonzero_rem-lower c =
-    divisor c.args.below (search rules)
-
-pub overflow_add-result : goal.overflow_add-result
-overflow_add-result c =
-    let a = c.args in
-    omega (
-      arith,
-      joined_is a.old a.x a.n a.below c.ranges.old.fits c.requires,
-      joined_fits a.old a.x a.n a.below c.ranges.old.fits c.requires,
-    )
-
-pub overflow_add-result-2 : goal.overflow_add-result-2
-overflow_add-result-2 c =
-    let a = c.args in
-    omega (
-      arith,
-      replaced_is a.old a.x a.n a.below c.ranges.old.fits c.requires,
-      replaced_fits a.old a.x a.n a.below c.ranges.old.fits c.requires,
-    )
 
 pub overflow_cast-result : goal.overflow_cast-result
 overflow_cast-result c =

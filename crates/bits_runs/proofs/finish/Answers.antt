@@ -4,7 +4,7 @@ use mathlib.Core.Bool.{Bool}
 use mathlib.Core.List.{List}
 use Prim.Native.Nat.{ℕ, ◌-◌, ◌*◌, ◌%◌}
 use native.Mathlib.Omega.{arith}
-use lib.Seq.{paste, paste-zero}
+use lib.Seq.{paste}
 use Rattle.meaning.specs.Bits.{bits_of, zeros, room}
 use Rattle.bits.proofs.Numbers.{to_bits_zero}
 use Rattle.bits_runs.proofs.finish.Goals as goal
@@ -16,9 +16,3 @@ returns-then-used-ne0 c =
     c.put_some.ensures
     ∙ ap (λ (v : List Bool). paste (bits_of a.out.now) a.w v (8 - a.w % 8)) (to_bits_zero (8 - a.w % 8))
     ∙ ap (λ (k : ℕ). paste (bits_of a.out.now) a.w (zeros k) k) e
-
-pub returns-else-used-ne0 : goal.returns-else-used-ne0
-returns-else-used-ne0 c =
-    let a = c.args in
-    let e : 0 ≡ 8 * room a.w - a.w = omega arith in
-    paste-zero (bits_of a.out.now) a.w (zeros 0) ∙ ap (λ (k : ℕ). paste (bits_of a.out.now) a.w (zeros k) k) e

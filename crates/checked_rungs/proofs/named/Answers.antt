@@ -1,65 +1,22 @@
--- `checked_rungs::named` meets its contract: the table first, then the node; the least number decides. Assumes nothing.
-use Prim.Native.Nat.{ℕ}
-use mathlib.Core.Path.{◌≡◌, sym, ap, ◌∙◌}
-use mathlib.Core.List.{List, [], ◌∷◌}
-use Rattle.answers.specs.Verdicts.{done_of}
-use Rattle.meaning.specs.Tables.{Table, table}
-use Rattle.meaning.specs.Ladder.{accepted, Record}
-use Rattle.meaning.specs.TypeCalls.{check_table_call}
-use Rattle.meaning.specs.Checked.{Sound}
-use Rattle.meaning.proofs.Ladders.{accepted_sound}
-use Rattle.checked_limits.specs.Limits.{limit_answer, limits_of}
-use Rattle.checked_rungs.proofs.Asked.{handed_stop, handed_asked, no_record, reached, last_node, true_node}
-use Rattle.checked_rungs.proofs.named.Lts as lts
-use Rattle.checked_rungs.proofs.named.Tie as tie
-use Rattle.checked_rungs.proofs.named.Reads as reads
+-- `checked_rungs::named` meets its contract: the table first, then the node. Assumes nothing.
+use mathlib.Core.Path.{ap, ◌∙◌}
+use Rattle.meaning.specs.Tables.{Table}
+use Rattle.answers.proofs.Exits.{handed_on}
+use Rattle.checked_limits.specs.Limits.{limit_answer, node_limit}
+use Rattle.checked_rungs.proofs.Asked.{stop_named, named_asked}
 use Rattle.checked_rungs.proofs.named.Goals as goal
 
--- The places of the code that the lemmas below speak of.
-abbrev Start : Type 0
-Start = lts.Start tie.the-claims reads.Pre reads.Post tie.handed_clauses
+pub returns-in_err-checked-clause-answer : goal.returns-in_err-checked-clause-answer
+returns-in_err-checked-clause-answer c =
+    handed_on (λ x. tt {0}) _ _ c.from_residual.ensures.1 _ (stop_named c.args.table.now c.args.node _ _ c.in_err-checked.ensures.answer)
 
-abbrev Past-After-enum_told : Type 0
-Past-After-enum_told = lts.Past-After-enum_told tie.the-claims reads.Pre reads.Post tie.handed_clauses
+pub returns-in_err-node_limit-clause-answer : goal.returns-in_err-node_limit-clause-answer
+returns-in_err-node_limit-clause-answer c =
+    handed_on (λ x. tt {0}) _ _ c.from_residual-in_err-node_limit.ensures.1 _
+    (named_asked c.args.table.now c.args.node c.in_ok-checked.ensures.answer _
+    (c.in_err-node_limit.ensures ∙ ap (λ (t : Table). limit_answer (node_limit t c.args.node)) c.in_ok-checked.ensures.same))
 
--- The table that the columns and the groups make, and what is asked.
-abbrev of : Start → Table
-of s = table s.args.kinds.now s.args.lefts.now s.args.rights.now s.args.groups.now s.args.count
-
-abbrev records : Start → List Record
-records s = []
-
-abbrev nodes : Start → List ℕ
-nodes s = s.args.node ∷ []
-
--- Past the first call the table is sound.
-abbrev start : Past-After-enum_told → Start
-start c = c.before.before.before.before.before.before
-
-passed : (c : Past-After-enum_told) → check_table_call (of (start c)) ≡ accepted (tt {0})
-passed c = sym c.sound-judged.ensures ∙ ap done_of c.in_default.is
-
-checked : (c : Past-After-enum_told) → Sound (of (start c))
-checked c = accepted_sound (of (start c)) (passed c)
-
-pub returns-in-Refused : goal.returns-in-Refused
-returns-in-Refused c =
-    let s = c.before.before.before.before.before.before.before in
-    sym
-    (handed_stop (of s) (records s) (nodes s) c.in-Refused.r.number c.in-Refused.r.place
-    (sym (sym (ap done_of c.in-Refused.is) ∙ c.sound-judged.ensures)))
-    ∙ no_record (of s) (nodes s)
-
-pub node_limit-requires : goal.node_limit-requires
-node_limit-requires c =
-    let e = c.before in
-    let a = (start e).args in
-    let both = reached a.kinds.now a.lefts.now a.rights.now a.groups.now a.count (checked e) in
-    record { count_bound = both.0; count_in_bounds = both.1 }
-
-pub returns : goal.returns
-returns c =
-    let e = c.before.before.before in
-    let s = start e in
-    let least : _ ≡ limits_of (of s) (records s) (nodes s) = (c.node_limit.ensures ∙ true_node (of s) (checked e) s.args.node) ∙ last_node (of s) s.args.node in
-    c.limited.ensures ∙ ap limit_answer least ∙ sym (handed_asked (of s) (records s) (nodes s) (passed e)) ∙ no_record (of s) (nodes s)
+pub returns-clause-answer : goal.returns-clause-answer
+returns-clause-answer c =
+    named_asked c.args.table.now c.args.node c.in_ok-checked.ensures.answer _
+    (c.in_ok-node_limit.ensures ∙ ap (λ (t : Table). limit_answer (node_limit t c.args.node)) c.in_ok-checked.ensures.same)

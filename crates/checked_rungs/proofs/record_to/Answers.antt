@@ -1,74 +1,21 @@
 -- `checked_rungs::record_to` meets its contract: the table first, then the record and the node; the least number decides. Assumes nothing.
-use Prim.Native.Nat.{ℕ, min}
-use mathlib.Core.Path.{◌≡◌, sym, ap, ap₂, ◌∙◌}
-use mathlib.Core.List.{List, [], ◌∷◌}
-use Rattle.answers.specs.Verdicts.{done_of}
-use Rattle.meaning.specs.Tables.{Table, table}
-use Rattle.meaning.specs.Ladder.{accepted, Record, record_of}
-use Rattle.meaning.specs.TypeCalls.{check_table_call}
-use Rattle.meaning.specs.Checked.{Sound}
-use Rattle.meaning.proofs.Ladders.{accepted_sound}
-use Rattle.checked_limits.specs.Limits.{limit_answer, limits_of}
-use Rattle.checked_rungs.proofs.Asked.{handed_stop, handed_asked, reached, last_node, true_node, true_record}
-use Rattle.checked_rungs.proofs.record_to.Lts as lts
-use Rattle.checked_rungs.proofs.record_to.Tie as tie
-use Rattle.checked_rungs.proofs.record_to.Reads as reads
+use mathlib.Core.Path.{ap, ◌∙◌}
+use mathlib.Core.List.{[], ◌∷◌}
+use Rattle.meaning.specs.Tables.{Table}
+use Rattle.meaning.specs.Ladder.{record_of}
+use Rattle.answers.proofs.Exits.{handed_on}
+use Rattle.checked_limits.specs.Limits.{limit_answer, node_limit, record_limit}
+use Rattle.checked_rungs.proofs.Asked.{stop_handed, asked_to}
 use Rattle.checked_rungs.proofs.record_to.Goals as goal
 
--- The places of the code that the lemmas below speak of.
-abbrev Start : Type 0
-Start = lts.Start tie.the-claims reads.Pre reads.Post tie.handed_clauses
+pub returns-in_err-checked-clause-answer : goal.returns-in_err-checked-clause-answer
+returns-in_err-checked-clause-answer c =
+    handed_on (λ x. tt {0}) _ _ c.from_residual.ensures.1 _ (stop_handed c.args.table.now (record_of c.args.bytes.now c.args.offset c.args.node ∷ []) (c.args.res ∷ []) _ _ c.in_err-checked.ensures.answer)
 
-abbrev Past-After-enum_told : Type 0
-Past-After-enum_told = lts.Past-After-enum_told tie.the-claims reads.Pre reads.Post tie.handed_clauses
+pub returns-in_err-earlier-clause-answer : goal.returns-in_err-earlier-clause-answer
+returns-in_err-earlier-clause-answer c =
+    handed_on (λ x. tt {0}) _ _ c.from_residual-in_err-earlier.ensures.1 _ (asked_to c.args.table.now (record_of c.args.bytes.now c.args.offset c.args.node) c.args.res c.in_ok-checked.ensures.answer _ _ _ c.in_err-earlier.ensures (c.record_limit-given.ensures ∙ ap (λ (t : Table). limit_answer (record_limit t (record_of c.args.bytes.now c.args.offset c.args.node))) c.in_ok-checked.ensures.same) (c.node_limit.ensures ∙ ap (λ (t : Table). limit_answer (node_limit t c.args.res)) c.in_ok-checked.ensures.same))
 
--- The table that the columns and the groups make, and what is asked.
-abbrev of : Start → Table
-of s = table s.args.kinds.now s.args.lefts.now s.args.rights.now s.args.groups.now s.args.count
-
-abbrev given : Start → Record
-given s = record_of s.args.bytes.now s.args.offset s.args.node
-
-abbrev records : Start → List Record
-records s = given s ∷ []
-
-abbrev nodes : Start → List ℕ
-nodes s = s.args.res ∷ []
-
--- Past the first call the table is sound.
-abbrev start : Past-After-enum_told → Start
-start c = c.before.before.before.before.before.before.before
-
-passed : (c : Past-After-enum_told) → check_table_call (of (start c)) ≡ accepted (tt {0})
-passed c = sym c.sound-judged.ensures ∙ ap done_of c.in_default.is
-
-checked : (c : Past-After-enum_told) → Sound (of (start c))
-checked c = accepted_sound (of (start c)) (passed c)
-
-pub returns-in-Refused : goal.returns-in-Refused
-returns-in-Refused c =
-    let s = c.before.before.before.before.before.before.before.before in
-    sym
-    (handed_stop (of s) (records s) (nodes s) c.in-Refused.r.number c.in-Refused.r.place
-    (sym (sym (ap done_of c.in-Refused.is) ∙ c.sound-judged.ensures)))
-
-pub record_limit-given-requires : goal.record_limit-given-requires
-record_limit-given-requires c =
-    let e = c.before in
-    let a = (start e).args in
-    let both = reached a.kinds.now a.lefts.now a.rights.now a.groups.now a.count (checked e) in
-    record { count_bound = both.0; count_in_bounds = both.1 }
-
-pub node_limit-requires : goal.node_limit-requires
-node_limit-requires c =
-    let e = c.before.before in
-    let a = (start e).args in
-    let both = reached a.kinds.now a.lefts.now a.rights.now a.groups.now a.count (checked e) in
-    record { count_bound = both.0; count_in_bounds = both.1 }
-
-pub returns : goal.returns
-returns c =
-    let e = c.before.before.before.before.before in
-    let s = start e in
-    let least : _ ≡ limits_of (of s) (records s) (nodes s) = c.least.ensures ∙ ap₂ min (c.record_limit-given.ensures ∙ true_record (of s) (checked e) (given s)) ((c.node_limit.ensures ∙ true_node (of s) (checked e) s.args.res) ∙ last_node (of s) s.args.res) in
-    c.limited.ensures ∙ ap limit_answer least ∙ sym (handed_asked (of s) (records s) (nodes s) (passed e))
+pub returns-clause-answer : goal.returns-clause-answer
+returns-clause-answer c =
+    (asked_to c.args.table.now (record_of c.args.bytes.now c.args.offset c.args.node) c.args.res c.in_ok-checked.ensures.answer _ _ _ c.in_ok-earlier.ensures (c.record_limit-given.ensures ∙ ap (λ (t : Table). limit_answer (record_limit t (record_of c.args.bytes.now c.args.offset c.args.node))) c.in_ok-checked.ensures.same) (c.node_limit.ensures ∙ ap (λ (t : Table). limit_answer (node_limit t c.args.res)) c.in_ok-checked.ensures.same))

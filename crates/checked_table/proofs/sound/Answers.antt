@@ -1,93 +1,60 @@
 -- `checked_table::sound` meets its contract: the count, the columns and the groups are tested one by one, then the nodes. Assumes nothing.
 use native.Mathlib.Omega.{arith}
-use Prim.Native.Nat.{◌/◌}
-use lib.ListN.{length}
-use mathlib.Core.Path.{◌≡◌, sym, ◌∙◌, ap}
-use Rattle.meaning.specs.Groups.{group_size}
-use Rattle.meaning.specs.Tables.{Table, table}
-use Rattle.meaning.specs.Ladder.{refused}
-use Rattle.meaning.proofs.Groups.{length_fact}
-use Rattle.meaning.proofs.Ladders.{Shape}
-use Rattle.checked_table.proofs.Faults.{misshaped, faulty_node, faultless}
-use Rattle.checked_table.proofs.sound.Lts as lts
-use Rattle.checked_table.proofs.sound.Tie as tie
-use Rattle.checked_table.proofs.sound.Reads as reads
+use Prim.Native.Nat.{◌/◌, ◌≤◌}
+use mathlib.Core.Path.{◌≡◌, sym, ap, subst}
+use Rattle.facts.specs.Known.{TableReach}
+use Rattle.meaning.proofs.Ladders.{Shape, accepted_sound}
+use Rattle.checked_table.proofs.Faults.{whole, unfit, grouped, shaped, reaching, faulty_node, faultless}
 use Rattle.checked_table.proofs.sound.Goals as goal
 
--- The places of the code that the lemmas below speak of.
-abbrev Start : Type 0
-Start = lts.Start tie.the-claims reads.Pre reads.Post
+pub returns-then-count-eq0-clause-answer : goal.returns-then-count-eq0-clause-answer
+returns-then-count-eq0-clause-answer c =
+    unfit _ _ c.table.view_is (λ s. omega (arith, s.some_node, c.if-count-eq0.true))
 
-abbrev Else6 : Type 0
-Else6 = lts.Else6 tie.the-claims reads.Pre reads.Post
+pub returns-then-count-gt1024-clause-answer : goal.returns-then-count-gt1024-clause-answer
+returns-then-count-gt1024-clause-answer c =
+    unfit _ _ c.table.view_is (λ s. omega (arith, s.few_nodes, c.if-count-gt1024.true))
 
--- The table that the columns and the groups make.
-abbrev of : Start → Table
-of c =
-    table c.args.kinds.now c.args.lefts.now c.args.rights.now c.args.groups.now c.args.count
+pub returns-then-columns-count-clause-answer : goal.returns-then-columns-count-clause-answer
+returns-then-columns-count-clause-answer c =
+    unfit _ _ (whole _ _ _ _ _ c.columns.view_is c.table.view_is) (λ s. omega (arith, s.kinds_reach, c.if-columns-count.true))
 
--- The groups of a table, and the nodes that have one.
-grouped : (c : Start) → length (of c).facts.widths ≡ length c.args.groups.now / group_size
-grouped c = length_fact 0 8 c.args.groups.now
+pub returns-then-columns-count-2-clause-answer : goal.returns-then-columns-count-2-clause-answer
+returns-then-columns-count-2-clause-answer c =
+    unfit _ _ (whole _ _ _ _ _ c.columns.view_is c.table.view_is) (λ s. omega (arith, s.lefts_reach, c.if-columns-count-2.true))
 
--- Where every test passed, the count, the columns and the groups are right.
-shape : (c : Else6) → Shape (of c.before.before.before.before.before.before.before.before.before.before)
-shape c =
-    let g = c.args.groups.now in
-    record {
-      some_node = omega arith;
-      few_nodes = omega arith;
-      kinds_reach = omega arith;
-      lefts_reach = omega arith;
-      rights_reach = omega arith;
-      widths_reach = omega (arith, length_fact 0 8 g);
-      sizes_reach = omega (arith, length_fact 8 8 g);
-      paddeds_reach = omega (arith, length_fact 16 1 g);
-      classes_reach = omega (arith, length_fact 17 2 g);
-      leasts_reach = omega (arith, length_fact 19 8 g);
-    }
+pub returns-then-columns-count-3-clause-answer : goal.returns-then-columns-count-3-clause-answer
+returns-then-columns-count-3-clause-answer c =
+    unfit _ _ (whole _ _ _ _ _ c.columns.view_is c.table.view_is) (λ s. omega (arith, s.rights_reach, c.if-columns-count-3.true))
 
-pub returns-then-count-eq0 : goal.returns-then-count-eq0
-returns-then-count-eq0 c =
-    sym (misshaped (of c.before.before.before.before.before.before) (λ s. omega arith))
-
-pub returns-then-count-gt1024 : goal.returns-then-count-gt1024
-returns-then-count-gt1024 c =
-    sym (misshaped (of c.before.before.before.before.before.before.before) (λ s. omega arith))
-
-pub returns-then-kinds-count : goal.returns-then-kinds-count
-returns-then-kinds-count c =
-    sym (misshaped (of c.before.before.before.before.before.before.before.before) (λ s. omega arith))
-
-pub returns-then-lefts-count : goal.returns-then-lefts-count
-returns-then-lefts-count c =
-    sym (misshaped (of c.before.before.before.before.before.before.before.before.before) (λ s. omega arith))
-
-pub returns-then-rights-count : goal.returns-then-rights-count
-returns-then-rights-count c =
-    sym (misshaped (of c.before.before.before.before.before.before.before.before.before.before) (λ s. omega arith))
-
-pub returns-then-groups-count : goal.returns-then-groups-count
-returns-then-groups-count c =
-    let start = c.before.before.before.before.before.before.before.before.before.before.before in
-    sym (misshaped (of start) (λ s. omega (arith, grouped start, s.widths_reach)))
+pub returns-then-groups-count-clause-answer : goal.returns-then-groups-count-clause-answer
+returns-then-groups-count-clause-answer c =
+    unfit _ _ c.table.view_is (λ s. omega (arith, grouped c.table.inside.groups.now, s.widths_reach, c.if-groups-count.true))
 
 pub first_bad-bad-requires : goal.first_bad-bad-requires
 first_bad-bad-requires c =
-    let s = shape c.before in
-    record {
-      few = s.few_nodes;
-      entries_reach = record { kinds_reach = s.kinds_reach; lefts_reach = s.lefts_reach; rights_reach = s.rights_reach };
-      groups-reach = omega arith;
-    }
+    subst TableReach (whole _ _ _ _ _ c.columns.view_is c.table.view_is)
+    (reaching _ (shaped c.columns.inside.kinds.now c.columns.inside.lefts.now c.columns.inside.rights.now c.table.inside.groups.now c.table.inside.count (omega (arith, c.if-count-eq0.false)) c.if-count-gt1024.false c.if-columns-count.false c.if-columns-count-2.false
+    c.if-columns-count-3.false c.if-groups-count.false))
 
-pub returns-then-bad-count : goal.returns-then-bad-count
-returns-then-bad-count c =
-    let t = of c.before.before.before.before.before.before.before.before.before.before.before.before.before in
-    let e = c.first_bad-bad.ensures in
-    ap (refused 1) e ∙ sym (faulty_node t (shape c.before.before.before) (omega arith))
+pub returns-then-bad-count-clause-answer : goal.returns-then-bad-count-clause-answer
+returns-then-bad-count-clause-answer c =
+    faulty_node c.args.table.now
+    (subst Shape (whole _ _ _ _ _ c.columns.view_is c.table.view_is) (shaped c.columns.inside.kinds.now c.columns.inside.lefts.now c.columns.inside.rights.now c.table.inside.groups.now c.table.inside.count (omega (arith, c.if-count-eq0.false)) c.if-count-gt1024.false c.if-columns-count.false c.if-columns-count-2.false
+    c.if-columns-count-3.false c.if-groups-count.false)) _ c.first_bad-bad.ensures
+    (omega (arith, ap (λ t. t.count) c.table.view_is, c.if-bad-count.true))
 
-pub returns : goal.returns
-returns c =
-    let t = of c.before.before.before.before.before.before.before.before.before.before.before.before.before in
-    sym (faultless t (shape c.before.before.before) (omega arith))
+pub new-requires : goal.new-requires
+new-requires c =
+    accepted_sound _
+    (sym (faultless c.args.table.now
+    (subst Shape (whole _ _ _ _ _ c.columns.view_is c.table.view_is) (shaped c.columns.inside.kinds.now c.columns.inside.lefts.now c.columns.inside.rights.now c.table.inside.groups.now c.table.inside.count (omega (arith, c.if-count-eq0.false)) c.if-count-gt1024.false c.if-columns-count.false c.if-columns-count-2.false
+    c.if-columns-count-3.false c.if-groups-count.false)) _ c.first_bad-bad.ensures
+    (omega (arith, ap (λ t. t.count) c.table.view_is, c.if-bad-count.false))))
+
+pub returns-clause-answer : goal.returns-clause-answer
+returns-clause-answer c =
+    faultless c.args.table.now
+    (subst Shape (whole _ _ _ _ _ c.columns.view_is c.table.view_is) (shaped c.columns.inside.kinds.now c.columns.inside.lefts.now c.columns.inside.rights.now c.table.inside.groups.now c.table.inside.count (omega (arith, c.if-count-eq0.false)) c.if-count-gt1024.false c.if-columns-count.false c.if-columns-count-2.false
+    c.if-columns-count-3.false c.if-groups-count.false)) _ c.first_bad-bad.ensures
+    (omega (arith, ap (λ t. t.count) c.table.view_is, c.if-bad-count.false))

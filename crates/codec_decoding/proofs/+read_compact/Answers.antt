@@ -14,6 +14,7 @@ use Rattle.meaning.specs.Codecs.{Decoded, decoded, after_first, decode_compact, 
 use Rattle.bits.specs.Runs.{Run}
 use Rattle.bits.proofs.OfBytes.{length_bits_of}
 use Rattle.laws.proofs.CodecRoundTrips.{compact_read_write}
+use Rattle.tables.specs.declared.Kind.{Kind}
 use Rattle.nodes.specs.declared.Node.{Node}
 use Rattle.nodes.specs.declared.Side.{Side}
 use Rattle.nodes.specs.Reading.{Reads, side_of}
@@ -79,10 +80,10 @@ module _ {t : Table} {n : ℕ} {r : Node} {x : List ℕ} {at : ℕ} {y : List �
         run = run;
       }
 
-  tag_inside : r.kind ≡ 1 → at < 8 * length x
+  tag_inside : r.kind ≡ Kind.Sum → at < 8 * length x
   tag_inside k = omega (arith, tag_enough here (bits_of x) at w.src_value k, length_bits_of x)
 
-  payload : {s : Side} {g : Bool} → not r.padded ≡ false → r.kind ≡ 1 → g ≡ get_or (bits_of x) at false → s ≡ side_of g r
+  payload : {s : Side} {g : Bool} → not r.padded ≡ false → r.kind ≡ Kind.Sum → g ≡ get_or (bits_of x) at false → s ≡ side_of g r
       → Payload t n r x at y to s g
   payload {s} {g} p k b f =
       let u = not-false r.padded p in
@@ -96,7 +97,7 @@ module _ {t : Table} {n : ℕ} {r : Node} {x : List ℕ} {at : ℕ} {y : List �
         room = omega (arith, own_width here, side.room, side.wide);
       }
 
-  parts : not r.padded ≡ false → (r.kind ≡ 1 → ⊥) → Parts t n r x at y to
+  parts : not r.padded ≡ false → (r.kind ≡ Kind.Sum → ⊥) → Parts t n r x at y to
   parts p k =
       let u = not-false r.padded p in
       let front = reading t r.left x at in
@@ -120,137 +121,125 @@ module _ {t : Table} {n : ℕ} {r : Node} {x : List ℕ} {at : ℕ} {y : List �
             w.src_value;
       }
 
-pub copy_bits-requires : goal.copy_bits-requires
-copy_bits-requires t c =
-    let w = single c.requires c.node_at-n.ensures c.if-not-n.true in
-    record {
-      run = record { inside = omega (arith, w.source.inside); counted = omega (arith, w.source.counted) };
-      run_2 = record { inside = omega (arith, w.place.inside); counted = omega (arith, w.place.counted) };
-    }
+pub copy_bits-requires-clause-run : goal.copy_bits-requires-clause-run
+copy_bits-requires-clause-run t c =
+    (single c.requires c.node-n.ensures c.if-not-n.true).source
+
+pub copy_bits-requires-clause-run_2 : goal.copy_bits-requires-clause-run_2
+copy_bits-requires-clause-run_2 t c =
+    (single c.requires c.node-n.ensures c.if-not-n.true).place
 
 pub overflow_add-result : goal.overflow_add-result
 overflow_add-result t c =
-    let w = single c.requires c.node_at-n.ensures c.if-not-n.true in record { fits = omega (arith, w.source.counted) }
+    let w = single c.requires c.node-n.ensures c.if-not-n.true in record { fits = omega arith }
 
 pub returns-then-not-n : goal.returns-then-not-n
 returns-then-not-n t c =
-    let w = single c.requires c.node_at-n.ensures c.if-not-n.true in
+    let w = single c.requires c.node-n.ensures c.if-not-n.true in
     read_run (drop c.args.at (bits_of c.args.src.now)) w.run w.enough c.copy_bits.ensures
 
 pub bit_at-right-requires : goal.bit_at-right-requires
-bit_at-right-requires t c = tag_inside c.requires c.node_at-n.ensures c.if-n-eq1.true
+bit_at-right-requires t c =
+    tag_inside c.requires c.node-n.ensures c.in-Sum.is
 
 pub overflow_sub-pad : goal.overflow_sub-pad
 overflow_sub-pad t c =
-    let w = payload c.requires c.node_at-n.ensures c.if-not-n.false c.if-n-eq1.true c.bit_at-right.ensures c.side_of-side.ensures in
-    omega (arith, w.goes_on.room)
+    let w = payload c.requires c.node-n.ensures c.if-not-n.false c.in-Sum.is c.bit_at-right.ensures c.side-side.ensures in
+    omega arith
 
-pub overflow_sub-pad-then-n-eq1 : goal.overflow_sub-pad-then-n-eq1
-overflow_sub-pad-then-n-eq1 t c =
-    let w = payload c.requires c.node_at-n.ensures c.if-not-n.false c.if-n-eq1.true c.bit_at-right.ensures c.side_of-side.ensures in
-    omega (arith, w.goes_on.room)
+pub overflow_sub-pad-in-Sum : goal.overflow_sub-pad-in-Sum
+overflow_sub-pad-in-Sum t c =
+    let w = payload c.requires c.node-n.ensures c.if-not-n.false c.in-Sum.is c.bit_at-right.ensures c.side-side.ensures in
+    omega arith
 
 pub put_bit-requires : goal.put_bit-requires
 put_bit-requires t c =
-    let w = payload c.requires c.node_at-n.ensures c.if-not-n.false c.if-n-eq1.true c.bit_at-right.ensures c.side_of-side.ensures in
-    omega (arith, w.room, c.requires.run_2.inside)
+    let w = payload c.requires c.node-n.ensures c.if-not-n.false c.in-Sum.is c.bit_at-right.ensures c.side-side.ensures in
+    omega arith
 
 pub overflow_add-to : goal.overflow_add-to
 overflow_add-to t c =
-    let w = payload c.requires c.node_at-n.ensures c.if-not-n.false c.if-n-eq1.true c.bit_at-right.ensures c.side_of-side.ensures in
-    record { fits = omega (arith, w.room, c.requires.run_2.counted) }
+    let w = payload c.requires c.node-n.ensures c.if-not-n.false c.in-Sum.is c.bit_at-right.ensures c.side-side.ensures in
+    record { fits = omega arith }
 
 pub clear_bits-requires : goal.clear_bits-requires
 clear_bits-requires t c =
-    let w = payload c.requires c.node_at-n.ensures c.if-not-n.false c.if-n-eq1.true c.bit_at-right.ensures c.side_of-side.ensures in
-    let i = c.requires.run_2 in
-    record { inside = omega (arith, w.room, i.inside, c.put_bit.auto.d); counted = omega (arith, w.room, i.counted) }
+    let w = payload c.requires c.node-n.ensures c.if-not-n.false c.in-Sum.is c.bit_at-right.ensures c.side-side.ensures in
+    record { inside = omega (arith, c.put_bit.auto.d); counted = omega arith }
 
 pub overflow_add-at : goal.overflow_add-at
 overflow_add-at t c =
-    let w = payload c.requires c.node_at-n.ensures c.if-not-n.false c.if-n-eq1.true c.bit_at-right.ensures c.side_of-side.ensures in
-    record { fits = omega (arith, w.pieces.count_is, c.requires.run.counted) }
+    let w = payload c.requires c.node-n.ensures c.if-not-n.false c.in-Sum.is c.bit_at-right.ensures c.side-side.ensures in
+    record { fits = omega arith }
 
-pub overflow_add-to-then-n-eq1 : goal.overflow_add-to-then-n-eq1
-overflow_add-to-then-n-eq1 t c =
-    let w = payload c.requires c.node_at-n.ensures c.if-not-n.false c.if-n-eq1.true c.bit_at-right.ensures c.side_of-side.ensures in
-    record { fits = omega (arith, w.room, c.requires.run_2.counted) }
+pub overflow_add-to-in-Sum : goal.overflow_add-to-in-Sum
+overflow_add-to-in-Sum t c =
+    let w = payload c.requires c.node-n.ensures c.if-not-n.false c.in-Sum.is c.bit_at-right.ensures c.side-side.ensures in
+    record { fits = omega arith }
 
-pub overflow_add-to-then-n-eq1-2 : goal.overflow_add-to-then-n-eq1-2
-overflow_add-to-then-n-eq1-2 t c =
-    let w = payload c.requires c.node_at-n.ensures c.if-not-n.false c.if-n-eq1.true c.bit_at-right.ensures c.side_of-side.ensures in
-    record { fits = omega (arith, w.room, c.requires.run_2.counted) }
+pub overflow_add-to-in-Sum-2 : goal.overflow_add-to-in-Sum-2
+overflow_add-to-in-Sum-2 t c =
+    let w = payload c.requires c.node-n.ensures c.if-not-n.false c.in-Sum.is c.bit_at-right.ensures c.side-side.ensures in
+    record { fits = omega arith }
 
 pub read_compact-requires : goal.read_compact-requires
 read_compact-requires t c =
-    let w = payload c.requires c.node_at-n.ensures c.if-not-n.false c.if-n-eq1.true c.bit_at-right.ensures c.side_of-side.ensures in
-    let i = c.requires.run in
-    let o = c.requires.run_2 in
+    let w = payload c.requires c.node-n.ensures c.if-not-n.false c.in-Sum.is c.bit_at-right.ensures c.side-side.ensures in
     let l : length c.clear_bits.new.dst ≡ length c.args.out.now = c.clear_bits.auto.dst ∙ c.put_bit.auto.d in (
-      omega (arith, w.goes_on.falls, c.decreases),
+      omega arith,
       (
         w.goes_on.named,
         (
           w.pieces.payload_whole,
-          (
-            record { inside = omega (arith, i.inside, w.pieces.count_is); counted = omega (arith, i.counted, w.pieces.count_is) },
-            record { inside = omega (arith, o.inside, w.room, l); counted = omega (arith, o.counted, w.room) },
-          ),
+          (record { inside = omega arith; counted = omega arith }, record { inside = omega arith; counted = omega arith }),
         ),
       ),
     )
 
-pub returns-then-n-eq1 : goal.returns-then-n-eq1
-returns-then-n-eq1 t c =
-    let w = payload c.requires c.node_at-n.ensures c.if-not-n.false c.if-n-eq1.true c.bit_at-right.ensures c.side_of-side.ensures in
-    let o = c.requires.run_2 in
-    read_tag c.put_bit.new.d w.pieces (omega (arith, w.room, o.inside, length_bits_of c.args.out.now))
-    (omega (arith, w.room, o.inside, c.put_bit.auto.d, length_bits_of c.put_bit.new.d))
+pub returns-in-Sum : goal.returns-in-Sum
+returns-in-Sum t c =
+    let w = payload c.requires c.node-n.ensures c.if-not-n.false c.in-Sum.is c.bit_at-right.ensures c.side-side.ensures in
+    read_tag c.put_bit.new.d w.pieces (omega (arith, length_bits_of c.args.out.now))
+    (omega (arith, c.put_bit.auto.d, length_bits_of c.put_bit.new.d))
     c.put_bit.ensures
     c.clear_bits.ensures
     c.read_compact.ensures
 
+pub overflow_add-second : goal.overflow_add-second
+overflow_add-second t c =
+    let w = parts c.requires c.node-n.ensures c.if-not-n.false c.in_default.not-Sum in
+    record { fits = omega arith }
+
 pub read_compact-next-requires : goal.read_compact-next-requires
 read_compact-next-requires t c =
-    let w = parts c.requires c.node_at-n.ensures c.if-not-n.false c.if-n-eq1.false in
-    let i = c.requires.run in
+    let w = parts c.requires c.node-n.ensures c.if-not-n.false c.in_default.not-Sum in
     let g = w.joined _ refl in (
-      omega (arith, w.first.falls, c.decreases),
+      omega arith,
       (
         w.first.named,
-        (w.front_whole, (record { inside = omega (arith, i.inside, g.count_is); counted = omega (arith, i.counted, g.count_is) }, w.front_room)),
+        (w.front_whole, (record { inside = omega arith; counted = omega arith }, w.front_room)),
       ),
     )
 
-pub overflow_add-to-2 : goal.overflow_add-to-2
-overflow_add-to-2 t c =
-    let w = parts c.requires c.node_at-n.ensures c.if-not-n.false c.if-n-eq1.false in
-    record { fits = omega (arith, w.back_room.counted) }
-
-pub read_compact-requires-2 : goal.read_compact-requires-2
-read_compact-requires-2 t c =
-    let w = parts c.requires c.node_at-n.ensures c.if-not-n.false c.if-n-eq1.false in
-    let i = c.requires.run in
-    let ends = c.read_compact-next.ensures.consumes in
-    let g = w.joined c.read_compact-next.result ends in (
-      omega (arith, w.second.falls, c.decreases),
+pub read_compact-requires-in_default : goal.read_compact-requires-in_default
+read_compact-requires-in_default t c =
+    let w = parts c.requires c.node-n.ensures c.if-not-n.false c.in_default.not-Sum in
+    let g = w.joined c.read_compact-next.result c.read_compact-next.ensures.consumes in (
+      omega arith,
       (
         w.second.named,
         (
           g.second_whole,
-          (
-            record { inside = omega (arith, i.inside, g.count_is, ends); counted = omega (arith, i.counted, g.count_is, ends) },
-            run_kept c.read_compact-next.auto.out w.back_room,
-          ),
+          (record { inside = omega arith; counted = omega arith }, run_kept c.read_compact-next.auto.out w.back_room),
         ),
       ),
     )
 
-pub returns : goal.returns
-returns t c =
-    let w = parts c.requires c.node_at-n.ensures c.if-not-n.false c.if-n-eq1.false in
-    let read = c.read_compact-next in
-    read_both (w.joined read.result read.ensures.consumes) (omega (arith, c.requires.run_2.inside, length_bits_of c.args.out.now))
+pub returns-in_default : goal.returns-in_default
+returns-in_default t c =
+    let w = parts c.requires c.node-n.ensures c.if-not-n.false c.in_default.not-Sum in
+    let front = c.read_compact-next in
+    read_both (w.joined front.result front.ensures.consumes) (omega (arith, length_bits_of c.args.out.now))
     (ap (λ (k : ℕ). c.args.to + k) w.front_wide)
-    read.ensures
-    c.read_compact-2.ensures
+    front.ensures
+    c.read_compact-in_default.ensures

@@ -1,9 +1,8 @@
 -- `codec_decoding::read_record` meets its contract: what was read and written from bit 0 on, with its last byte finished. Assumes nothing.
 use mathlib.Core.Path.{sym, ◌∙◌}
-use native.Mathlib.Omega.{arith}
 use borrow.Author.Rules.{rules}
 use lib.ListN.{drop}
-use Rattle.meaning.specs.Tables.{columns, ty_at}
+use Rattle.meaning.specs.Tables.{ty_at}
 use Rattle.meaning.specs.Bits.{bits_of}
 use Rattle.meaning.specs.Codecs.{Decoded, decode_compact, decoded_record, consumed}
 use Rattle.bits.proofs.OfBytes.{are_bytes}
@@ -12,13 +11,10 @@ use Rattle.codec_laws.proofs.Writing.{wrote_finished}
 use Rattle.codec_laws.proofs.Readings.{whole}
 use Rattle.codec_decoding.proofs.read_record.Goals as goal
 
-pub finish-requires : goal.finish-requires
-finish-requires c = omega (arith, c.requires.run_2.inside, c.width_of.ensures, c.read_compact-next.auto.out)
-
 pub returns-clause-out_after : goal.returns-clause-out_after
 returns-clause-out_after c =
     let a = c.args in
-    let type = ty_at (columns a.kinds.now a.lefts.now a.rights.now) a.node in
+    let type = ty_at a.table.now.columns a.node in
     let rest = drop a.at (bits_of a.src.now) in
     let read : Decoded = decode_compact type rest in
     let wide = (compact_read_write type rest (decoded_record read) (consumed read) (whole c.requires.src_value)).as_wide in

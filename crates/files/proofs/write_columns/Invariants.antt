@@ -1,19 +1,16 @@
--- `files::write_columns` meets its contract. The loop's invariant: the first n nodes are found, the next stands at `at`, and each column has
--- those nodes at its front. The measure is how many are left. Assumes nothing.
-use Prim.Native.Nat.{◌-◌, ◌≤◌}
-use mathlib.Core.Path.{◌≡◌}
+-- `files::write_columns` meets its contract. The loop's invariant: the first n nodes are found and written, and the reader is at the next.
+use Rattle.std.proofs.Common.{◌≡◌}
+use Rattle.meaning.specs.Tables.{columns}
+use Rattle.meaning.specs.TypeCalls.{entries_written}
+use Rattle.files.proofs.Whole.{Counted}
 use Rattle.files.proofs.Entries.{ReadUpTo, first_nodes}
-use Rattle.files.proofs.Columns.{column}
 use Rattle.files.proofs.write_columns.Given as goal
 
 abbrev pub invariant-loop-n : goal.invariant-loop-n
-invariant-loop-n l =
-    (l.n ≤ l.count)
-    × ReadUpTo l.file l.start l.n l.at
-    × (l.kinds ≡ column (λ e. e.kind) (first_nodes l.file l.start l.n) l.n l.initial.kinds)
-    × (l.lefts ≡ column (λ e. e.left) (first_nodes l.file l.start l.n) l.n l.initial.lefts)
-    × (l.rights ≡ column (λ e. e.right) (first_nodes l.file l.start l.n) l.n l.initial.rights)
-
-abbrev pub decreases-loop-n : goal.decreases-loop-n
-decreases-loop-n l =
-    l.count - l.n
+invariant-loop-n l = record {
+  counted : Counted l.file l.count l.initial.reader;
+  read : ReadUpTo l.initial.reader l.n l.reader;
+  written :
+      columns l.kinds l.lefts l.rights
+      ≡ entries_written (first_nodes l.initial.reader l.n) (columns l.initial.kinds l.initial.lefts l.initial.rights);
+}

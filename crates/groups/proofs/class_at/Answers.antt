@@ -1,16 +1,9 @@
 -- `groups::class_at` meets its contract. Assumes nothing.
-use native.Mathlib.Omega.{arith}
-use mathlib.Core.Path.{sym, ◌∙◌}
-use Prim.Native.Nat.{◌+◌, ◌*◌, ◌≤◌}
-use lib.ListN.{length}
-use Rattle.meaning.specs.Groups.{group_size}
-use Rattle.meaning.proofs.Groups.{fact_at}
-use Rattle.groups.proofs.Lows.{low_two}
+use Rattle.std.proofs.Common.{ap, ◌∙◌, arith, w16}
+use Rattle.std.specs.Int.{from_le_bytes}
+use Rattle.groups.proofs.Lows.{fact_two}
 use Rattle.groups.proofs.class_at.Goals as goal
 
 pub returns : goal.returns
 returns c =
-    let n = c.args.n in
-    let g = c.args.groups.now in
-    let h : group_size * n + 17 + 2 ≤ length g = omega arith in
-    c.two.ensures ∙ sym (fact_at 17 2 n g c.requires ∙ low_two (group_size * n + 17) g h)
+    c.from_le_bytes.ensures ∙ ap (from_le_bytes w16) c.bytes_at.ensures ∙ fact_two 17 c.args.n _ c.args.groups.now c.requires (omega arith)

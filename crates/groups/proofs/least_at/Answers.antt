@@ -1,14 +1,9 @@
 -- `groups::least_at` meets its contract. Assumes nothing.
-use native.Mathlib.Omega.{arith}
-use mathlib.Core.Path.{sym, ◌∙◌}
-use Rattle.meaning.proofs.Groups.{fact_at}
+use Rattle.std.proofs.Common.{ap, ◌∙◌, arith, w64}
+use Rattle.std.specs.Int.{from_le_bytes}
+use Rattle.groups.proofs.Lows.{fact_eight}
 use Rattle.groups.proofs.least_at.Goals as goal
-
-pub eight-requires : goal.eight-requires
-eight-requires c =
-    omega arith
 
 pub returns : goal.returns
 returns c =
-    let a = c.args in
-    c.eight.ensures ∙ sym (fact_at 19 8 a.n a.groups.now c.requires)
+    c.from_le_bytes.ensures ∙ ap (from_le_bytes w64) c.bytes_at.ensures ∙ fact_eight 19 c.args.n _ c.args.groups.now c.requires (omega arith)

@@ -12,98 +12,95 @@ use Rattle.prune_judging.proofs.+fits.Goals as goal
 pub returns-then-target_class-given_class : goal.returns-then-target_class-given_class
 returns-then-target_class-given_class t c =
     let r = c.requires in
-    let s = step_of r.named r.named_2 r.run c.node_at-given_node.ensures c.node_at-target_node.ensures in
+    let s = step_of r.named r.named_2 r.run c.node-given_node.ensures c.node-target_node.ensures in
     sym (ap is_cut (step_equal s c.if-target_class-given_class.true))
 
 -- Unit.
-pub returns-then-target_kind-eq0 : goal.returns-then-target_kind-eq0
-returns-then-target_kind-eq0 t c =
+pub returns-in-Unit-default : goal.returns-in-Unit-default
+returns-in-Unit-default t c =
     let r = c.requires in
-    let s = step_of r.named r.named_2 r.run c.node_at-given_node.ensures c.node_at-target_node.ensures in
-    sym (ap is_cut (step_unit s c.if-target_kind-eq0.true))
+    let s = step_of r.named r.named_2 r.run c.node-given_node.ensures c.node-target_node.ensures in
+    sym (ap is_cut (step_unit s c.in-Unit-default.is-0))
 
 -- Another kind.
-pub returns-then-target_kind-given_kind : goal.returns-then-target_kind-given_kind
-returns-then-target_kind-given_kind t c =
+pub returns-in_default : goal.returns-in_default
+returns-in_default t c =
     let r = c.requires in
-    let s = step_of r.named r.named_2 r.run c.node_at-given_node.ensures c.node_at-target_node.ensures in
-    sym (ap is_cut (step_unlike s c.if-target_kind-eq0.false c.if-target_kind-given_kind.true))
+    let s = step_of r.named r.named_2 r.run c.node-given_node.ensures c.node-target_node.ensures in
+    sym (ap is_cut (step_unlike s c.in_default.is-0 (omega arith) c.in_default.not-Sum-1))
+
+pub returns-in_default-2 : goal.returns-in_default-2
+returns-in_default-2 t c =
+    let r = c.requires in
+    let s = step_of r.named r.named_2 r.run c.node-given_node.ensures c.node-target_node.ensures in
+    sym (ap is_cut (step_unlike s c.in_default.is-0 (omega arith) c.in_default.not-Product-1))
 
 -- At a sum.
 pub taken_side-side-requires : goal.taken_side-side-requires
 taken_side-side-requires t c =
     let r = c.requires in
-    let s = step_of r.named r.named_2 r.run c.node_at-given_node.ensures c.node_at-target_node.ensures in
-    let one = c.if-target_kind-eq1.true in
-    two_sums s one (sym c.if-target_kind-given_kind.false ∙ one)
+    let s = step_of r.named r.named_2 r.run c.node-given_node.ensures c.node-target_node.ensures in
+    two_sums s c.in-Sum-Sum.is-0 c.in-Sum-Sum.is-1
 
 -- The payloads of both.
 pub overflow_add-at : goal.overflow_add-at
 overflow_add-at t c =
     let r = c.requires in
-    let p = step_of r.named r.named_2 r.run c.node_at-given_node.ensures c.node_at-target_node.ensures in
-    let like = c.if-target_kind-given_kind.false in
-    let s = sum_step_of p c.if-target_class-given_class.false c.if-target_kind-eq1.true like c.taken_side-side.ensures in
+    let p = step_of r.named r.named_2 r.run c.node-given_node.ensures c.node-target_node.ensures in
+    let s = sum_step_of p c.if-target_class-given_class.false c.in-Sum-Sum.is-0 c.in-Sum-Sum.is-1 c.taken_side-side.ensures in
     let i = (run_sum s).counted in
     record { fits = omega arith }
 
 pub fits-requires : goal.fits-requires
 fits-requires t c =
     let r = c.requires in
-    let p = step_of r.named r.named_2 r.run c.node_at-given_node.ensures c.node_at-target_node.ensures in
-    let like = c.if-target_kind-given_kind.false in
-    let s = sum_step_of p c.if-target_class-given_class.false c.if-target_kind-eq1.true like c.taken_side-side.ensures in
+    let p = step_of r.named r.named_2 r.run c.node-given_node.ensures c.node-target_node.ensures in
+    let s = sum_step_of p c.if-target_class-given_class.false c.in-Sum-Sum.is-0 c.in-Sum-Sum.is-1 c.taken_side-side.ensures in
     let f = falls_sum s in
     (omega arith, ((named_sum s).0, ((named_sum s).1, run_sum s)))
 
-pub returns-then-target_kind-eq1 : goal.returns-then-target_kind-eq1
-returns-then-target_kind-eq1 t c =
+pub returns-in-Sum-Sum : goal.returns-in-Sum-Sum
+returns-in-Sum-Sum t c =
     let r = c.requires in
-    let p = step_of r.named r.named_2 r.run c.node_at-given_node.ensures c.node_at-target_node.ensures in
-    let like = c.if-target_kind-given_kind.false in
-    let s = sum_step_of p c.if-target_class-given_class.false c.if-target_kind-eq1.true like c.taken_side-side.ensures in
+    let p = step_of r.named r.named_2 r.run c.node-given_node.ensures c.node-target_node.ensures in
+    let s = sum_step_of p c.if-target_class-given_class.false c.in-Sum-Sum.is-0 c.in-Sum-Sum.is-1 c.taken_side-side.ensures in
     c.fits.ensures ∙ sym (accepts_sum s)
 
 -- At a product.
-pub fits-requires-2 : goal.fits-requires-2
-fits-requires-2 t c =
+pub fits-requires-in-Product-Product : goal.fits-requires-in-Product-Product
+fits-requires-in-Product-Product t c =
     let r = c.requires in
-    let p = step_of r.named r.named_2 r.run c.node_at-given_node.ensures c.node_at-target_node.ensures in
-    let like = c.if-target_kind-given_kind.false in
-    let s = product_step_of p c.if-target_class-given_class.false c.if-target_kind-eq0.false c.if-target_kind-eq1.false like in
+    let p = step_of r.named r.named_2 r.run c.node-given_node.ensures c.node-target_node.ensures in
+    let s = product_step_of p c.if-target_class-given_class.false c.in-Product-Product.is-0 c.in-Product-Product.is-1 in
     let f = falls_first s in
     (omega arith, ((named_first s).0, ((named_first s).1, run_first s)))
 
-pub returns-then-not-fits : goal.returns-then-not-fits
-returns-then-not-fits t c =
+pub overflow_add-at-then-fits : goal.overflow_add-at-then-fits
+overflow_add-at-then-fits t c =
     let r = c.requires in
-    let p = step_of r.named r.named_2 r.run c.node_at-given_node.ensures c.node_at-target_node.ensures in
-    let like = c.if-target_kind-given_kind.false in
-    let s = product_step_of p c.if-target_class-given_class.false c.if-target_kind-eq0.false c.if-target_kind-eq1.false like in
-    first_decides s c.fits-2.result c.fits-2.ensures c.if-not-fits.true
-
-pub overflow_add-at-2 : goal.overflow_add-at-2
-overflow_add-at-2 t c =
-    let r = c.requires in
-    let p = step_of r.named r.named_2 r.run c.node_at-given_node.ensures c.node_at-target_node.ensures in
-    let like = c.if-target_kind-given_kind.false in
-    let s = product_step_of p c.if-target_class-given_class.false c.if-target_kind-eq0.false c.if-target_kind-eq1.false like in
+    let p = step_of r.named r.named_2 r.run c.node-given_node.ensures c.node-target_node.ensures in
+    let s = product_step_of p c.if-target_class-given_class.false c.in-Product-Product.is-0 c.in-Product-Product.is-1 in
     let i = (run_second s).counted in
     record { fits = omega arith }
 
-pub fits-requires-3 : goal.fits-requires-3
-fits-requires-3 t c =
+pub fits-requires-then-fits : goal.fits-requires-then-fits
+fits-requires-then-fits t c =
     let r = c.requires in
-    let p = step_of r.named r.named_2 r.run c.node_at-given_node.ensures c.node_at-target_node.ensures in
-    let like = c.if-target_kind-given_kind.false in
-    let s = product_step_of p c.if-target_class-given_class.false c.if-target_kind-eq0.false c.if-target_kind-eq1.false like in
+    let p = step_of r.named r.named_2 r.run c.node-given_node.ensures c.node-target_node.ensures in
+    let s = product_step_of p c.if-target_class-given_class.false c.in-Product-Product.is-0 c.in-Product-Product.is-1 in
     let f = falls_second s in
     (omega arith, ((named_second s).0, ((named_second s).1, run_second s)))
 
-pub returns : goal.returns
-returns t c =
+pub returns-then-fits : goal.returns-then-fits
+returns-then-fits t c =
     let r = c.requires in
-    let p = step_of r.named r.named_2 r.run c.node_at-given_node.ensures c.node_at-target_node.ensures in
-    let like = c.if-target_kind-given_kind.false in
-    let s = product_step_of p c.if-target_class-given_class.false c.if-target_kind-eq0.false c.if-target_kind-eq1.false like in
-    second_decides s c.fits-2.result c.fits-3.result c.fits-2.ensures c.if-not-fits.false c.fits-3.ensures
+    let p = step_of r.named r.named_2 r.run c.node-given_node.ensures c.node-target_node.ensures in
+    let s = product_step_of p c.if-target_class-given_class.false c.in-Product-Product.is-0 c.in-Product-Product.is-1 in
+    second_decides s c.fits-in-Product-Product.result _ c.fits-in-Product-Product.ensures c.if-fits.true c.fits-then-fits.ensures
+
+pub returns-else-fits : goal.returns-else-fits
+returns-else-fits t c =
+    let r = c.requires in
+    let p = step_of r.named r.named_2 r.run c.node-given_node.ensures c.node-target_node.ensures in
+    let s = product_step_of p c.if-target_class-given_class.false c.in-Product-Product.is-0 c.in-Product-Product.is-1 in
+    c.if-fits.false ∙ first_decides s c.fits-in-Product-Product.result c.fits-in-Product-Product.ensures c.if-fits.false

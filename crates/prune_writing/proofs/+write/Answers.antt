@@ -2,10 +2,10 @@
 -- numbers are lower. Assumes nothing.
 use mathlib.Core.Path.{sym, ◌∙◌}
 use native.Mathlib.Omega.{arith}
-use Rattle.prune_sides.proofs.Walks.{step_of, sum_step_of, product_step_of, equal_width, equal_bits, step_like}
+use Rattle.prune_sides.proofs.Walks.{step_of, equal_width, equal_bits, step_like}
 use Rattle.prune_sides.proofs.Walks.{two_sums, accepts_sum, named_sum, run_sum, falls_sum, before_sum, spans_sum}
 use Rattle.prune_sides.proofs.Walks.{named_first, run_first, falls_first, named_second, run_second, falls_second, spans_product}
-use Rattle.prune_writing.proofs.Writes.{written_equal, written_unit, lies_sum, written_sum}
+use Rattle.prune_writing.proofs.Writes.{at_sum, at_product, written_equal, written_unit, lies_sum, written_sum}
 use Rattle.prune_writing.proofs.Writes.{lies_first, lies_second, cuts_first, cuts_second, written_product}
 use Rattle.prune_writing.proofs.+write.Goals as goal
 
@@ -13,7 +13,7 @@ use Rattle.prune_writing.proofs.+write.Goals as goal
 pub copy_bits-requires : goal.copy_bits-requires
 copy_bits-requires t c =
     let r = c.requires in
-    let s = step_of r.named r.named_2 r.run c.node_at-given_node.ensures c.node_at-target_node.ensures in
+    let s = step_of r.named r.named_2 r.run c.node-given_node.ensures c.node-target_node.ensures in
     let w = equal_width s c.if-target_class-given_class.true in
     let n = equal_bits s c.if-target_class-given_class.true in
     let i = r.run in
@@ -23,31 +23,29 @@ copy_bits-requires t c =
 pub returns-then-target_class-given_class : goal.returns-then-target_class-given_class
 returns-then-target_class-given_class t c =
     let r = c.requires in
-    let s = step_of r.named r.named_2 r.run c.node_at-given_node.ensures c.node_at-target_node.ensures in
+    let s = step_of r.named r.named_2 r.run c.node-given_node.ensures c.node-target_node.ensures in
     written_equal s c.args.out.now c.args.to c.copy_bits.new.dst c.if-target_class-given_class.true c.copy_bits.ensures
 
 -- Unit.
-pub returns-then-target_kind-eq0 : goal.returns-then-target_kind-eq0
-returns-then-target_kind-eq0 t c =
+pub returns-in-Unit : goal.returns-in-Unit
+returns-in-Unit t c =
     let r = c.requires in
-    let s = step_of r.named r.named_2 r.run c.node_at-given_node.ensures c.node_at-target_node.ensures in
-    written_unit s c.args.out.now c.args.to c.if-target_kind-eq0.true
+    let s = step_of r.named r.named_2 r.run c.node-given_node.ensures c.node-target_node.ensures in
+    written_unit s c.args.out.now c.args.to c.in-Unit.is
 
 -- At a sum.
 pub taken_side-side-requires : goal.taken_side-side-requires
 taken_side-side-requires t c =
     let r = c.requires in
-    let s = step_of r.named r.named_2 r.run c.node_at-given_node.ensures c.node_at-target_node.ensures in
-    let one = c.if-target_kind-eq1.true in
-    two_sums s one (sym (step_like s c.if-target_kind-eq0.false r.target_value) ∙ one)
+    let s = step_of r.named r.named_2 r.run c.node-given_node.ensures c.node-target_node.ensures in
+    two_sums s c.in-Sum.is (step_like s c.in-Sum.is (omega arith) r.target_value)
 
 -- The payloads of both.
 pub put_bit-requires : goal.put_bit-requires
 put_bit-requires t c =
     let r = c.requires in
-    let p = step_of r.named r.named_2 r.run c.node_at-given_node.ensures c.node_at-target_node.ensures in
-    let like = step_like p c.if-target_kind-eq0.false r.target_value in
-    let s = sum_step_of p c.if-target_class-given_class.false c.if-target_kind-eq1.true like c.taken_side-side.ensures in
+    let s = at_sum r.named r.named_2 r.run c.node-given_node.ensures c.node-target_node.ensures r.target_value
+    c.if-target_class-given_class.false c.in-Sum.is c.taken_side-side.ensures in
     let o = r.run_2 in
     let n = before_sum s in
     let k = spans_sum s in
@@ -56,9 +54,8 @@ put_bit-requires t c =
 pub overflow_add-to : goal.overflow_add-to
 overflow_add-to t c =
     let r = c.requires in
-    let p = step_of r.named r.named_2 r.run c.node_at-given_node.ensures c.node_at-target_node.ensures in
-    let like = step_like p c.if-target_kind-eq0.false r.target_value in
-    let s = sum_step_of p c.if-target_class-given_class.false c.if-target_kind-eq1.true like c.taken_side-side.ensures in
+    let s = at_sum r.named r.named_2 r.run c.node-given_node.ensures c.node-target_node.ensures r.target_value
+    c.if-target_class-given_class.false c.in-Sum.is c.taken_side-side.ensures in
     let o = r.run_2 in
     let n = before_sum s in
     let k = spans_sum s in
@@ -67,18 +64,16 @@ overflow_add-to t c =
 pub overflow_sub-before : goal.overflow_sub-before
 overflow_sub-before t c =
     let r = c.requires in
-    let p = step_of r.named r.named_2 r.run c.node_at-given_node.ensures c.node_at-target_node.ensures in
-    let like = step_like p c.if-target_kind-eq0.false r.target_value in
-    let s = sum_step_of p c.if-target_class-given_class.false c.if-target_kind-eq1.true like c.taken_side-side.ensures in
+    let s = at_sum r.named r.named_2 r.run c.node-given_node.ensures c.node-target_node.ensures r.target_value
+    c.if-target_class-given_class.false c.in-Sum.is c.taken_side-side.ensures in
     let n = before_sum s in
     omega arith
 
 pub clear_bits-requires : goal.clear_bits-requires
 clear_bits-requires t c =
     let r = c.requires in
-    let p = step_of r.named r.named_2 r.run c.node_at-given_node.ensures c.node_at-target_node.ensures in
-    let like = step_like p c.if-target_kind-eq0.false r.target_value in
-    let s = sum_step_of p c.if-target_class-given_class.false c.if-target_kind-eq1.true like c.taken_side-side.ensures in
+    let s = at_sum r.named r.named_2 r.run c.node-given_node.ensures c.node-target_node.ensures r.target_value
+    c.if-target_class-given_class.false c.in-Sum.is c.taken_side-side.ensures in
     let o = r.run_2 in
     let n = before_sum s in
     let k = spans_sum s in
@@ -89,18 +84,16 @@ clear_bits-requires t c =
 pub overflow_add-at : goal.overflow_add-at
 overflow_add-at t c =
     let r = c.requires in
-    let p = step_of r.named r.named_2 r.run c.node_at-given_node.ensures c.node_at-target_node.ensures in
-    let like = step_like p c.if-target_kind-eq0.false r.target_value in
-    let s = sum_step_of p c.if-target_class-given_class.false c.if-target_kind-eq1.true like c.taken_side-side.ensures in
+    let s = at_sum r.named r.named_2 r.run c.node-given_node.ensures c.node-target_node.ensures r.target_value
+    c.if-target_class-given_class.false c.in-Sum.is c.taken_side-side.ensures in
     let i = (run_sum s).counted in
     record { fits = omega arith }
 
-pub overflow_add-to-then-target_kind-eq1 : goal.overflow_add-to-then-target_kind-eq1
-overflow_add-to-then-target_kind-eq1 t c =
+pub overflow_add-to-in-Sum : goal.overflow_add-to-in-Sum
+overflow_add-to-in-Sum t c =
     let r = c.requires in
-    let p = step_of r.named r.named_2 r.run c.node_at-given_node.ensures c.node_at-target_node.ensures in
-    let like = step_like p c.if-target_kind-eq0.false r.target_value in
-    let s = sum_step_of p c.if-target_class-given_class.false c.if-target_kind-eq1.true like c.taken_side-side.ensures in
+    let s = at_sum r.named r.named_2 r.run c.node-given_node.ensures c.node-target_node.ensures r.target_value
+    c.if-target_class-given_class.false c.in-Sum.is c.taken_side-side.ensures in
     let o = r.run_2 in
     let n = before_sum s in
     let k = spans_sum s in
@@ -109,9 +102,8 @@ overflow_add-to-then-target_kind-eq1 t c =
 pub write-requires : goal.write-requires
 write-requires t c =
     let r = c.requires in
-    let p = step_of r.named r.named_2 r.run c.node_at-given_node.ensures c.node_at-target_node.ensures in
-    let like = step_like p c.if-target_kind-eq0.false r.target_value in
-    let s = sum_step_of p c.if-target_class-given_class.false c.if-target_kind-eq1.true like c.taken_side-side.ensures in
+    let s = at_sum r.named r.named_2 r.run c.node-given_node.ensures c.node-target_node.ensures r.target_value
+    c.if-target_class-given_class.false c.in-Sum.is c.taken_side-side.ensures in
     let f = falls_sum s in
     let kept = c.clear_bits.auto.dst ∙ c.put_bit.auto.d in (
       omega arith,
@@ -130,22 +122,20 @@ write-requires t c =
       ),
     )
 
-pub returns-then-target_kind-eq1 : goal.returns-then-target_kind-eq1
-returns-then-target_kind-eq1 t c =
+pub returns-in-Sum : goal.returns-in-Sum
+returns-in-Sum t c =
     let r = c.requires in
-    let p = step_of r.named r.named_2 r.run c.node_at-given_node.ensures c.node_at-target_node.ensures in
-    let like = step_like p c.if-target_kind-eq0.false r.target_value in
-    let s = sum_step_of p c.if-target_class-given_class.false c.if-target_kind-eq1.true like c.taken_side-side.ensures in
+    let s = at_sum r.named r.named_2 r.run c.node-given_node.ensures c.node-target_node.ensures r.target_value
+    c.if-target_class-given_class.false c.in-Sum.is c.taken_side-side.ensures in
     written_sum s c.args.out.now c.args.to r.run_2 c.put_bit.new.d c.clear_bits.new.dst c.write.new.out r.target_value c.put_bit.ensures
     c.clear_bits.ensures c.write.ensures
 
 -- At a product.
-pub write-requires-2 : goal.write-requires-2
-write-requires-2 t c =
+pub write-requires-in-Product : goal.write-requires-in-Product
+write-requires-in-Product t c =
     let r = c.requires in
-    let p = step_of r.named r.named_2 r.run c.node_at-given_node.ensures c.node_at-target_node.ensures in
-    let like = step_like p c.if-target_kind-eq0.false r.target_value in
-    let s = product_step_of p c.if-target_class-given_class.false c.if-target_kind-eq0.false c.if-target_kind-eq1.false like in
+    let s = at_product r.named r.named_2 r.run c.node-given_node.ensures c.node-target_node.ensures r.target_value
+    c.if-target_class-given_class.false c.in-Product.is in
     let f = falls_first s in (
       omega arith,
       (
@@ -163,31 +153,28 @@ write-requires-2 t c =
       ),
     )
 
-pub overflow_add-at-2 : goal.overflow_add-at-2
-overflow_add-at-2 t c =
+pub overflow_add-at-in-Product : goal.overflow_add-at-in-Product
+overflow_add-at-in-Product t c =
     let r = c.requires in
-    let p = step_of r.named r.named_2 r.run c.node_at-given_node.ensures c.node_at-target_node.ensures in
-    let like = step_like p c.if-target_kind-eq0.false r.target_value in
-    let s = product_step_of p c.if-target_class-given_class.false c.if-target_kind-eq0.false c.if-target_kind-eq1.false like in
+    let s = at_product r.named r.named_2 r.run c.node-given_node.ensures c.node-target_node.ensures r.target_value
+    c.if-target_class-given_class.false c.in-Product.is in
     let i = (run_second s).counted in
     record { fits = omega arith }
 
-pub overflow_add-to-2 : goal.overflow_add-to-2
-overflow_add-to-2 t c =
+pub overflow_add-to-in-Product : goal.overflow_add-to-in-Product
+overflow_add-to-in-Product t c =
     let r = c.requires in
-    let p = step_of r.named r.named_2 r.run c.node_at-given_node.ensures c.node_at-target_node.ensures in
-    let like = step_like p c.if-target_kind-eq0.false r.target_value in
-    let s = product_step_of p c.if-target_class-given_class.false c.if-target_kind-eq0.false c.if-target_kind-eq1.false like in
+    let s = at_product r.named r.named_2 r.run c.node-given_node.ensures c.node-target_node.ensures r.target_value
+    c.if-target_class-given_class.false c.in-Product.is in
     let o = r.run_2 in
     let k = spans_product s in
     record { fits = omega arith }
 
-pub write-requires-3 : goal.write-requires-3
-write-requires-3 t c =
+pub write-requires-in-Product-2 : goal.write-requires-in-Product-2
+write-requires-in-Product-2 t c =
     let r = c.requires in
-    let p = step_of r.named r.named_2 r.run c.node_at-given_node.ensures c.node_at-target_node.ensures in
-    let like = step_like p c.if-target_kind-eq0.false r.target_value in
-    let s = product_step_of p c.if-target_class-given_class.false c.if-target_kind-eq0.false c.if-target_kind-eq1.false like in
+    let s = at_product r.named r.named_2 r.run c.node-given_node.ensures c.node-target_node.ensures r.target_value
+    c.if-target_class-given_class.false c.in-Product.is in
     let f = falls_second s in (
       omega arith,
       (
@@ -198,17 +185,16 @@ write-requires-3 t c =
             run_second s,
             (
               cuts_second s c.args.out.now c.args.to r.run_2 r.target_value,
-              lies_second s c.args.out.now c.args.to r.run_2 c.write-2.new.out c.write-2.auto.out,
+              lies_second s c.args.out.now c.args.to r.run_2 c.write-in-Product.new.out c.write-in-Product.auto.out,
             ),
           ),
         ),
       ),
     )
 
-pub returns : goal.returns
-returns t c =
+pub returns-in-Product : goal.returns-in-Product
+returns-in-Product t c =
     let r = c.requires in
-    let p = step_of r.named r.named_2 r.run c.node_at-given_node.ensures c.node_at-target_node.ensures in
-    let like = step_like p c.if-target_kind-eq0.false r.target_value in
-    let s = product_step_of p c.if-target_class-given_class.false c.if-target_kind-eq0.false c.if-target_kind-eq1.false like in
-    written_product s c.args.out.now c.args.to r.run_2 c.write-2.new.out c.write-3.new.out r.target_value c.write-2.ensures c.write-3.ensures
+    let s = at_product r.named r.named_2 r.run c.node-given_node.ensures c.node-target_node.ensures r.target_value
+    c.if-target_class-given_class.false c.in-Product.is in
+    written_product s c.args.out.now c.args.to r.run_2 c.write-in-Product.new.out c.write-in-Product-2.new.out r.target_value c.write-in-Product.ensures c.write-in-Product-2.ensures

@@ -24,18 +24,19 @@ refusal file n p e =
 
 pub report-requires : goal.report-requires
 report-requires c =
-    let n = few c.args.file.now c.in-Is.count c.in-Is.ensures.result_value in
+    let n = few c.args.file.now c.in-Ok.count c.in-Ok.ensures.result_value in
     record { room = omega arith; kinds_reach = omega arith; groups-reach = omega arith }
 
-pub returns-in-Is : goal.returns-in-Is
-returns-in-Is c =
+pub returns-in-Ok : goal.returns-in-Ok
+returns-in-Ok c =
     subst (λ (t : List ℕ). Printed c.args.out.now t c.report.new.out c.report.result)
-    (told c.args.file.now c.read_table-read.new.kinds c.read_table-read.new.groups c.in-Is.count
-    c.in-Is.ensures.result_value c.in-Is.ensures.kinds_after c.in-Is.ensures.groups_after)
+    (told c.args.file.now c.read_table.new.kinds c.read_table.new.groups c.in-Ok.count
+    c.in-Ok.ensures.result_value c.in-Ok.ensures.kinds_after c.in-Ok.ensures.groups_after)
     c.report.ensures
 
-pub returns-in-Refused : goal.returns-in-Refused
-returns-in-Refused c =
+pub returns-in-Err : goal.returns-in-Err
+returns-in-Err c =
     subst (λ (t : List ℕ). Printed c.args.out.now t c.refusal_line.new.out c.refusal_line.result)
-    (refusal c.args.file.now c.in-Refused.r.number c.in-Refused.r.place c.in-Refused.ensures.result_value)
+    (refusal c.args.file.now c.number.result c.place.result
+    (rw (c.number.ensures, c.place.ensures) c.in-Err.ensures.result_value))
     c.refusal_line.ensures

@@ -1,33 +1,21 @@
--- `types::as_product` meets its contract: a product is a node of kind 2. Assumes nothing.
-use mathlib.Core.Path.{sym, ◌∙◌, ap}
+-- `types::as_product` meets its contract: a product is a node of its kind. Assumes nothing.
+use mathlib.Core.Path.{◌∙◌}
 use Rattle.meaning.specs.Types.{is_prod}
-use Rattle.meaning.specs.Tables.{Table, table}
 use Rattle.meaning.specs.Ladder.{type_at, shaped}
 use Rattle.meaning.specs.TypeCalls.{sides_at}
-use Rattle.answers.specs.Verdicts.{facts_of}
+use Rattle.answers.specs.Verdicts.{sides}
+use Rattle.answers.proofs.Exits.{handed_on}
 use Rattle.checked.proofs.Told.{told_stop}
 use Rattle.types.proofs.Types.{product_told}
-use Rattle.types.proofs.as_product.Lts as lts
-use Rattle.types.proofs.as_product.Tie as tie
-use Rattle.types.proofs.as_product.Reads as reads
 use Rattle.types.proofs.as_product.Goals as goal
 
--- The places of the code that the lemmas below speak of.
-abbrev Start : Type 0
-Start = lts.Start tie.the-claims reads.Pre reads.Post
+pub returns-in_err-facts : goal.returns-in_err-facts
+returns-in_err-facts c =
+    let a = c.args in
+    let t = a.table.now in
+    handed_on sides _ _ c.from_residual.ensures.1 _
+    (told_stop t a.node (shaped (is_prod (type_at t a.node))) (sides_at t a.node) _ _ c.in_err-facts.ensures)
 
--- The table that the columns and the groups make.
-abbrev of : Start → Table
-of c =
-    table c.args.kinds.now c.args.lefts.now c.args.rights.now c.args.groups.now c.args.count
-
-pub returns-in-Refused : goal.returns-in-Refused
-returns-in-Refused c =
-    let s = c.before.before.before.before.before.before.before in
-    told_stop (of s) c.args.node (shaped (is_prod (type_at (of s) c.args.node))) (sides_at (of s) c.args.node) c.in-Refused.r.number c.in-Refused.r.place
-    (sym (ap facts_of c.in-Refused.is) ∙ c.facts_of.ensures)
-
-pub returns-in-Are : goal.returns-in-Are
-returns-in-Are c =
-    let s = c.before.before.before.before.before.before.before.before in
-    c.sides_if.ensures ∙ product_told (of s) c.args.node (sym (ap facts_of c.in-Are.is) ∙ c.facts_of.ensures)
+pub returns : goal.returns
+returns c =
+    c.sides_if.ensures ∙ product_told c.args.table.now c.args.node c.in_ok-facts.ensures

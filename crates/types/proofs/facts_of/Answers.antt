@@ -1,46 +1,25 @@
 -- `types::facts_of` meets its contract: past the table and the node, the facts are read. Assumes nothing.
-use mathlib.Core.Path.{◌≡◌, sym, ◌∙◌, ap}
+use mathlib.Core.Path.{ap, ◌∙◌}
 use mathlib.Core.List.{[], ◌∷◌}
-use Rattle.meaning.specs.Tables.{Table, table, facts_at}
-use Rattle.meaning.specs.Ladder.{accepted}
-use Rattle.answers.specs.Verdicts.{done_of, node_facts}
-use Rattle.checked.proofs.Passed.{asked_passed}
-use Rattle.checked_present.proofs.Asking.{judged, asks_stop, answered}
-use Rattle.types.proofs.facts_of.Lts as lts
-use Rattle.types.proofs.facts_of.Tie as tie
-use Rattle.types.proofs.facts_of.Reads as reads
+use Rattle.meaning.specs.Tables.{Table, facts_at}
+use Rattle.answers.specs.Verdicts.{node_facts}
+use Rattle.answers.proofs.Exits.{handed_on}
+use Rattle.checked.proofs.Handed.{checked_present}
+use Rattle.checked_present.proofs.Asking.{asks_stop, answered}
 use Rattle.types.proofs.facts_of.Goals as goal
 
--- The places of the code that the lemmas below speak of.
-abbrev Start : Type 0
-Start = lts.Start tie.the-claims reads.Pre reads.Post
-
-abbrev Past-After-enum_told : Type 0
-Past-After-enum_told = lts.Past-After-enum_told tie.the-claims reads.Pre reads.Post
-
--- The table that the columns and the groups make.
-abbrev of : Start → Table
-of c =
-    table c.args.kinds.now c.args.lefts.now c.args.rights.now c.args.groups.now c.args.count
-
--- Past the first call the table is sound, and the node is in it.
-abbrev entry : Past-After-enum_told → Start
-entry c = c.before.before.before.before.before.before
-
-passed : (c : Past-After-enum_told) → accepted (tt {0}) ≡ judged (of (entry c)) ((entry c).args.node ∷ [])
-passed c = sym (ap done_of c.in_default.is) ∙ c.one-judged.ensures
-
-pub returns-in-Refused : goal.returns-in-Refused
-returns-in-Refused c =
-    let s = c.before.before.before.before.before.before.before in
-    asks_stop (of s) (c.args.node ∷ []) [] (facts_at (of s).columns c.args.node) c.in-Refused.r.number c.in-Refused.r.place
-    (sym (ap done_of c.in-Refused.is) ∙ c.one-judged.ensures)
+pub returns-in_err-checked : goal.returns-in_err-checked
+returns-in_err-checked c =
+    let a = c.args in
+    handed_on node_facts _ _ c.from_residual.ensures.1 _
+    (asks_stop a.table.now (a.node ∷ []) [] (facts_at a.table.now.columns a.node) _ _ c.in_err-checked.ensures.answer)
 
 pub facts-requires : goal.facts-requires
 facts-requires c =
-    (asked_passed (of (entry c.before)) ((entry c.before).args.node ∷ []) (sym (passed c.before))).1.0
+    (checked_present c.args.table.now _ c.in_ok-checked.ensures.same (c.args.node ∷ []) c.in_ok-checked.ensures.answer).0.here
 
 pub returns : goal.returns
 returns c =
-    let s = entry c.before.before in
-    answered (of s) (s.args.node ∷ []) (facts_at (of s).columns s.args.node) (node_facts c.facts.result) (passed c.before.before) c.facts.ensures
+    let a = c.args in
+    answered a.table.now (a.node ∷ []) (facts_at a.table.now.columns a.node) _ c.in_ok-checked.ensures.answer
+    (c.facts.ensures ∙ ap (λ (t : Table). facts_at t.columns a.node) c.in_ok-checked.ensures.same)

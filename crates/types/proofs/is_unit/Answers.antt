@@ -1,33 +1,21 @@
--- `types::is_unit` meets its contract: a unit is a node of kind 0. Assumes nothing.
-use mathlib.Core.Path.{sym, ◌∙◌, ap}
+-- `types::is_unit` meets its contract: a unit is a node of its kind. Assumes nothing.
+use mathlib.Core.Path.{ap, sym, ◌∙◌}
 use mathlib.Core.List.{[]}
 use Rattle.meaning.specs.Types.{is_unit}
-use Rattle.meaning.specs.Tables.{Table, table}
-use Rattle.meaning.specs.Ladder.{type_at}
-use Rattle.answers.specs.Verdicts.{facts_of}
+use Rattle.meaning.specs.Ladder.{accepted, type_at}
+use Rattle.tables.specs.declared.Kind.{Kind}
+use Rattle.answers.proofs.Exits.{handed_on}
 use Rattle.checked.proofs.Told.{told_stop}
+use Rattle.types_reading.proofs.Read.{kinds_alike}
 use Rattle.types.proofs.Types.{unit_told}
-use Rattle.types.proofs.is_unit.Lts as lts
-use Rattle.types.proofs.is_unit.Tie as tie
-use Rattle.types.proofs.is_unit.Reads as reads
 use Rattle.types.proofs.is_unit.Goals as goal
 
--- The places of the code that the lemmas below speak of.
-abbrev Start : Type 0
-Start = lts.Start tie.the-claims reads.Pre reads.Post
+pub returns-in_err-facts : goal.returns-in_err-facts
+returns-in_err-facts c =
+    let a = c.args in
+    handed_on (λ b. b) _ _ c.from_residual.ensures.1 _
+    (told_stop a.table.now a.node [] (is_unit (type_at a.table.now a.node)) _ _ c.in_err-facts.ensures)
 
--- The table that the columns and the groups make.
-abbrev of : Start → Table
-of c =
-    table c.args.kinds.now c.args.lefts.now c.args.rights.now c.args.groups.now c.args.count
-
-pub returns-in-Refused : goal.returns-in-Refused
-returns-in-Refused c =
-    let s = c.before.before.before.before.before.before.before in
-    told_stop (of s) c.args.node [] (is_unit (type_at (of s) c.args.node)) c.in-Refused.r.number c.in-Refused.r.place
-    (sym (ap facts_of c.in-Refused.is) ∙ c.facts_of.ensures)
-
-pub returns-in-Are : goal.returns-in-Are
-returns-in-Are c =
-    let s = c.before.before.before.before.before.before.before.before in
-    unit_told (of s) c.args.node (sym (ap facts_of c.in-Are.is) ∙ c.facts_of.ensures)
+pub returns : goal.returns
+returns c =
+    ap accepted (c.eq.ensures ∙ sym (kinds_alike c.in_ok-facts.facts.kind Kind.Unit)) ∙ unit_told c.args.table.now c.args.node c.in_ok-facts.ensures

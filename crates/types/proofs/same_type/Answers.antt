@@ -1,53 +1,34 @@
 -- `types::same_type` meets its contract: past the table and the nodes, the types are compared. Assumes nothing.
-use mathlib.Core.Path.{◌≡◌, sym, ◌∙◌, ap}
+use mathlib.Core.Path.{ap, ◌∙◌}
 use mathlib.Core.List.{[], ◌∷◌}
 use Rattle.meaning.specs.Types.{same}
-use Rattle.meaning.specs.Tables.{Table, table}
-use Rattle.meaning.specs.Ladder.{accepted, type_at}
-use Rattle.answers.specs.Verdicts.{done_of}
-use Rattle.checked.specs.Passed.{All, Present}
-use Rattle.checked.proofs.Passed.{asked_passed}
-use Rattle.checked_present.proofs.Asking.{judged, asks_stop, answered}
-use Rattle.types.proofs.same_type.Lts as lts
-use Rattle.types.proofs.same_type.Tie as tie
-use Rattle.types.proofs.same_type.Reads as reads
+use Rattle.meaning.specs.Tables.{Table}
+use Rattle.meaning.specs.Ladder.{type_at}
+use Rattle.answers.proofs.Exits.{handed_on}
+use Rattle.checked.proofs.Handed.{checked_present}
+use Rattle.checked_present.proofs.Asking.{asks_stop, answered}
 use Rattle.types.proofs.same_type.Goals as goal
 
--- The places of the code that the lemmas below speak of.
-abbrev Start : Type 0
-Start = lts.Start tie.the-claims reads.Pre reads.Post tie.handed_clauses
+pub returns-in_err-both : goal.returns-in_err-both
+returns-in_err-both c =
+    let a = c.args in
+    let t = a.table.now in
+    handed_on (λ b. b) _ _ c.from_residual.ensures.1 _
+    (asks_stop t (a.a ∷ a.b ∷ []) [] (same (type_at t a.a) (type_at t a.b)) _ _ c.in_err-both.ensures.answer)
 
-abbrev Past-After-enum_told : Type 0
-Past-After-enum_told = lts.Past-After-enum_told tie.the-claims reads.Pre reads.Post tie.handed_clauses
+pub same_type-requires-clause-a_lt_count : goal.same_type-requires-clause-a_lt_count
+same_type-requires-clause-a_lt_count c =
+    let a = c.args in
+    (checked_present a.table.now _ c.in_ok-both.ensures.same (a.a ∷ a.b ∷ []) c.in_ok-both.ensures.answer).0.here
 
--- The table that the columns and the groups make.
-abbrev of : Start → Table
-of c =
-    table c.args.kinds.now c.args.lefts.now c.args.rights.now c.args.groups.now c.args.count
-
--- Past the first call the table is sound, and both nodes are in it.
-abbrev entry : Past-After-enum_told → Start
-entry c = c.before.before.before.before.before.before
-
-passed : (c : Past-After-enum_told) → accepted (tt {0}) ≡ judged (of (entry c)) ((entry c).args.a ∷ (entry c).args.b ∷ [])
-passed c = sym (ap done_of c.in_default.is) ∙ c.two-judged.ensures
-
-known : (c : Past-After-enum_told) → All (Present (of (entry c))) ((entry c).args.a ∷ (entry c).args.b ∷ [])
-known c = (asked_passed (of (entry c)) ((entry c).args.a ∷ (entry c).args.b ∷ []) (sym (passed c))).1
-
-pub returns-in-Refused : goal.returns-in-Refused
-returns-in-Refused c =
-    let s = c.before.before.before.before.before.before.before in
-    asks_stop (of s) (c.args.a ∷ c.args.b ∷ []) [] (same (type_at (of s) c.args.a) (type_at (of s) c.args.b))
-    c.in-Refused.r.number c.in-Refused.r.place (sym (ap done_of c.in-Refused.is) ∙ c.two-judged.ensures)
-
-pub same_type-requires : goal.same_type-requires
-same_type-requires c =
-    let k = known c.before in record { sound = k.0.sound; a_lt_count = k.0.here; b_lt_count = k.1.0.here }
+pub same_type-requires-clause-b_lt_count : goal.same_type-requires-clause-b_lt_count
+same_type-requires-clause-b_lt_count c =
+    let a = c.args in
+    (checked_present a.table.now _ c.in_ok-both.ensures.same (a.a ∷ a.b ∷ []) c.in_ok-both.ensures.answer).1.0.here
 
 pub returns : goal.returns
 returns c =
-    let e = c.before.before in
-    let s = entry e in
-    answered (of s) (s.args.a ∷ s.args.b ∷ []) (same (type_at (of s) s.args.a) (type_at (of s) s.args.b)) c.same_type.result (passed e)
-    c.same_type.ensures
+    let a = c.args in
+    let t = a.table.now in
+    answered t (a.a ∷ a.b ∷ []) (same (type_at t a.a) (type_at t a.b)) _ c.in_ok-both.ensures.answer
+    (c.same_type.ensures ∙ ap (λ (u : Table). same (type_at u a.a) (type_at u a.b)) c.in_ok-both.ensures.same)

@@ -1,170 +1,148 @@
 -- `words_buffers::make_buffer` meets its contract: the ladder's 6, 7 and 9 in their order, then the segments. Assumes nothing.
-use Prim.Native.Nat.{ℕ, ◌+◌, ◌*◌, ◌^◌}
+use Prim.Native.Nat.{ℕ, ◌+◌, ◌-◌, ◌*◌, ◌^◌, ◌≤◌, ◌<◌}
 use mathlib.Core.Path.{◌≡◌, sym, ap, ◌∙◌}
-use mathlib.Core.Bool.{Bool, true, ◌&&◌}
+use mathlib.Core.Bool.{Bool, true, false, ◌&&◌}
 use mathlib.Core.List.{List, [], ◌∷◌}
 use native.Mathlib.Nat.{two-pow-succ}
 use native.Mathlib.Numerals.{add-one}
 use native.Mathlib.Omega.{arith}
 use lib.Dec.{ltb}
-use lib.ListN.{length}
+use lib.ListN.{length, get_or}
 use lib.Seq.{paste}
+use borrow.Author.Rules.{rules}
 use borrow.Author.Tests.{lt-ltb, le-ltb}
 use Rattle.meaning.specs.Types.{bits, same}
-use Rattle.meaning.specs.Tables.{Table, table}
-use Rattle.meaning.specs.Bits.{bits_of}
-use Rattle.meaning.specs.Words.{buffer, buffer_bits}
-use Rattle.meaning.specs.Ladder.{accepted, Rung, ladder, named, type_at}
-use Rattle.meaning.specs.WordCalls.{buffer_rungs}
-use Rattle.meaning.proofs.Tests.{and_both, and_no_right}
+use Rattle.meaning.specs.Tables.{Table}
+use Rattle.meaning.specs.Bits.{bits_of, zeros, room}
+use Rattle.meaning.specs.Words.{word_widths, buffer, buffer_bits}
+use Rattle.meaning.specs.Ladder.{refused, accepted, Rung, ladder, named, type_at}
+use Rattle.meaning.specs.WordCalls.{buffer_rungs, buffer_call, buffer_out}
+use Rattle.meaning.proofs.Tests.{and_both, and_no_left, and_no_right}
 use Rattle.meaning.proofs.Powers.{pow_twelve}
 use Rattle.meaning.proofs.WordWidths.{word-widths}
 use Rattle.bits.proofs.OfBytes.{are_bytes}
 use Rattle.bits.proofs.Packed.{finished}
+use Rattle.meaning.specs.Checked.{Bytes}
+use Rattle.checked.specs.Passed.{Named}
 use Rattle.checked.proofs.Passes.{named_passes}
 use Rattle.checked.proofs.Made.{stopped, short, done}
 use Rattle.checked.proofs.Shaped.{range_missed, range_shape, range_pass}
 use Rattle.words_laws.proofs.Parts.{length_buffer, buffer_small}
-use Rattle.words_buffers.proofs.make_buffer.Lts as lts
-use Rattle.words_buffers.proofs.make_buffer.Tie as tie
-use Rattle.words_buffers.proofs.make_buffer.Reads as reads
 use Rattle.words_buffers.proofs.make_buffer.Goals as goal
 
--- The places of the code that the lemmas below speak of.
-abbrev Start : Type 0
-Start = lts.Start tie.the-claims reads.Pre reads.Post tie.handed_clauses
+module _ (t : Table) (n : ℕ) (held : List ℕ) (res : ℕ) (out : List ℕ) (h : Named t res) where
+  -- The rungs before 6, the tests of 6 and 7, and the call's rungs.
+  abbrev before6 : List Rung
+  before6 = named t (res ∷ [])
 
-abbrev Else1 : Type 0
-Else1 = lts.Else1 tie.the-claims reads.Pre reads.Post tie.handed_clauses
+  abbrev few : Bool
+  few = ltb (length held) (2 ^ (n + 1))
 
-abbrev After-word_width : Type 0
-After-word_width = lts.After-word_width tie.the-claims reads.Pre reads.Post tie.handed_clauses
+  abbrev ranges : Bool
+  ranges = ltb n 13 && few
 
-abbrev Else2 : Type 0
-Else2 = lts.Else2 tie.the-claims reads.Pre reads.Post tie.handed_clauses
+  abbrev fits : Bool
+  fits = same (type_at t res) (buffer n)
 
-abbrev Else3 : Type 0
-Else3 = lts.Else3 tie.the-claims reads.Pre reads.Post tie.handed_clauses
+  abbrev rungs : List Rung
+  rungs = buffer_rungs t n held res
 
--- The table that the columns and the groups make; the rungs before 6, the tests of 6 and 7, all rungs of the call and the record's bits.
-abbrev of : Start → Table
-of s =
-    table s.args.kinds.now s.args.lefts.now s.args.rights.now s.args.groups.now s.args.count
+  passed : ladder before6 (tt {0}) ≡ accepted (tt {0})
+  passed = named_passes t h.sound (res ∷ []) (h, tt)
 
-abbrev before6 : Start → List Rung
-before6 s = named (of s) (s.args.res ∷ [])
+  outside : ranges ≡ false → (refused 6 0 ≡ buffer_call t n held res out) × (out ≡ buffer_out t n held res out)
+  outside f = stopped rungs (buffer_bits n held) out 6 0 (range_missed before6 ranges fits passed f)
 
-abbrev few : Start → Bool
-few s = ltb (length s.args.«data».now) (2 ^ (s.args.n + 1))
+  no_buffer : 13 ≤ n → (refused 6 0 ≡ buffer_call t n held res out) × (out ≡ buffer_out t n held res out)
+  no_buffer l = outside (and_no_left (ltb n 13) few (le-ltb n 13 l))
 
-abbrev ranges : Start → Bool
-ranges s = ltb s.args.n 13 && few s
+  module _ (l : n < 13) (w : ℕ) (e : w ≡ get_or word_widths n 0) where
+    -- The word's width is 2 to the n, and the limit 2 to the n + 1.
+    power : w ≡ 2 ^ n
+    power = e ∙ word-widths n (omega (arith, l))
 
-abbrev fits : Start → Bool
-fits s = same (type_at (of s) s.args.res) (buffer s.args.n)
+    small : 2 * w ≤ 8192
+    small = omega (arith, power, pow_twelve n l)
 
-abbrev rungs : Start → List Rung
-rungs s = buffer_rungs (of s) s.args.n s.args.«data».now s.args.res
+    limit_is : 2 * w ≡ 2 ^ (n + 1)
+    limit_is =
+        let d : 2 * w ≡ 2 ^ n + 2 ^ n = omega (arith, power) in
+        d ∙ sym (two-pow-succ n) ∙ ap (λ (k : ℕ). 2 ^ k) (sym (add-one n))
 
-abbrev bits-of : Start → List Bool
-bits-of s = buffer_bits s.args.n s.args.«data».now
+    long : 2 * w ≤ length held → (refused 6 0 ≡ buffer_call t n held res out) × (out ≡ buffer_out t n held res out)
+    long m = outside (and_no_right (ltb n 13) few (le-ltb (length held) (2 ^ (n + 1)) (omega (arith, limit_is, m))))
 
-passed : (s : Start) → ladder (before6 s) (tt {0}) ≡ accepted (tt {0})
-passed s = named_passes (of s) s.requires.sound (s.args.res ∷ []) (s.requires, tt)
+    module _ (m : length held < 2 * w) where
+      in-range : ranges ≡ true
+      in-range = and_both (ltb n 13) few (lt-ltb n 13 l) (lt-ltb (length held) (2 ^ (n + 1)) (omega (arith, limit_is, m)))
 
--- What the function is given, at any place past the first test.
-abbrev start : Else1 → Start
-start c = c.before.before.before.before.before.before.before
+      other_shape : fits ≡ false → (refused 7 0 ≡ buffer_call t n held res out) × (out ≡ buffer_out t n held res out)
+      other_shape f = stopped rungs (buffer_bits n held) out 7 0 (range_shape before6 ranges fits passed in-range f)
 
--- The word's width is 2 to the n, and the limit 2 to the n + 1.
-power : (c : After-word_width) → c.word_width.result ≡ 2 ^ (start c.before).args.n
-power c = c.word_width.ensures ∙ word-widths (start c.before).args.n (omega arith)
+      module _ (f : fits ≡ true) where
+        clear : ladder rungs (tt {0}) ≡ accepted (tt {0})
+        clear = range_pass before6 ranges fits passed in-range f
 
-limit_is : (c : After-word_width) → 2 * c.word_width.result ≡ 2 ^ ((start c.before).args.n + 1)
-limit_is c =
-    let n = (start c.before).args.n in
-    let e = power c in
-    let p = two-pow-succ n in
-    let d : 2 * c.word_width.result ≡ 2 ^ n + 2 ^ n = omega arith in
-    d ∙ sym p ∙ ap (λ (k : ℕ). 2 ^ k) (sym (add-one n))
+        no_room : length out < room (bits (buffer n)) → (refused 9 0 ≡ buffer_call t n held res out) × (out ≡ buffer_out t n held res out)
+        no_room k = short rungs (buffer_bits n held) out clear (omega (arith, length_buffer n held, k))
 
-in-range : (c : Else2) → ranges (start c.before.before) ≡ true
-in-range c =
-    let s = start c.before.before in
-    let e = limit_is c.before in
-    and_both (ltb s.args.n 13) (few s) (lt-ltb s.args.n 13 c.if-n-ge13.false)
-    (lt-ltb (length s.args.«data».now) (2 ^ (s.args.n + 1)) (omega arith))
+        -- The segments, and the last byte finished.
+        wrote : (v : ℕ) → v ≡ bits (buffer n) → room v ≤ length out → (mid new : List ℕ) → Bytes out → Bytes new
+            → bits_of mid ≡ paste (bits_of out) 0 (buffer_bits n held) (bits (buffer n))
+            → bits_of new ≡ paste (bits_of mid) v (zeros (8 * room v - v)) (8 * room v - v)
+            → (accepted v ≡ buffer_call t n held res out) × (new ≡ buffer_out t n held res out)
+        wrote v u k mid new bo bn em en =
+            let many : length (buffer_bits n held) ≡ v = length_buffer n held ∙ sym u in
+            done rungs (buffer_bits n held) out clear (omega (arith, many, k)) v (sym many) new
+            (finished (buffer_bits n held) v out mid new many bo bn (em ∙ ap (λ (j : ℕ). paste (bits_of out) 0 (buffer_bits n held) j) (sym u)) en)
 
-all_right : (c : Else3) → ladder (rungs (start c.before.before.before.before)) (tt {0}) ≡ accepted (tt {0})
-all_right c =
-    let s = start c.before.before.before.before in
-    range_pass (before6 s) (ranges s) (fits s) (passed s) (in-range c.before.before)
-    (sym c.is_buffer.ensures ∙ c.if-not-is_buffer.false)
-
-pub returns-then-n-ge13 : goal.returns-then-n-ge13
-returns-then-n-ge13 c =
-    let s = c.before.before.before.before.before.before.before.before in
-    let both = stopped (rungs s) (bits-of s) c.args.out.now 6 0
-    (range_missed (before6 s) (ranges s) (fits s) (passed s) (ap (λ (b : Bool). b && few s) (le-ltb c.args.n 13 c.if-n-ge13.true))) in
+pub returns-then-n-ge-BUFFERS : goal.returns-then-n-ge-BUFFERS
+returns-then-n-ge-BUFFERS c =
+    let a = c.args in
+    let both = no_buffer a.table.now a.n a.«data».now a.res a.out.now c.requires c.if-n-ge-BUFFERS.true in
     record { result_value = both.0; out_after = both.1 }
 
 pub overflow_mul-limit : goal.overflow_mul-limit
 overflow_mul-limit c =
-    let e = power c.before in let m = pow_twelve (start c.before.before).args.n c.if-n-ge13.false in record { fits = omega arith }
+    let a = c.args in
+    let m = small a.table.now a.n a.«data».now a.res a.out.now c.requires c.if-n-ge-BUFFERS.false _ c.word_width.ensures in
+    record { fits = omega arith }
 
 pub returns-then-limit-data : goal.returns-then-limit-data
 returns-then-limit-data c =
-    let s = start c.before.before.before in
-    let e = limit_is c.before.before in
-    let both = stopped (rungs s) (bits-of s) s.args.out.now 6 0
-    (range_missed (before6 s) (ranges s) (fits s) (passed s)
-    (and_no_right (ltb s.args.n 13) (few s) (le-ltb (length s.args.«data».now) (2 ^ (s.args.n + 1)) (omega arith)))) in
+    let a = c.args in
+    let both =
+    long a.table.now a.n a.«data».now a.res a.out.now c.requires c.if-n-ge-BUFFERS.false _ c.word_width.ensures c.if-limit-data.true in
     record { result_value = both.0; out_after = both.1 }
-
-pub is_buffer-requires : goal.is_buffer-requires
-is_buffer-requires c =
-    let s = start c.before.before.before in record { sound = s.requires.sound; node_lt_count = s.requires.here; n_bound = c.if-n-ge13.false }
 
 pub returns-then-not-is_buffer : goal.returns-then-not-is_buffer
 returns-then-not-is_buffer c =
-    let s = start c.before.before.before.before.before in
-    let both = stopped (rungs s) (bits-of s) s.args.out.now 7 0
-    (range_shape (before6 s) (ranges s) (fits s) (passed s) (in-range c.before.before.before)
-    (sym c.is_buffer.ensures ∙ c.if-not-is_buffer.true)) in
+    let a = c.args in
+    let both =
+    other_shape a.table.now a.n a.«data».now a.res a.out.now c.requires c.if-n-ge-BUFFERS.false _ c.word_width.ensures c.if-limit-data.false
+    (sym c.is_buffer.ensures ∙ c.if-not-is_buffer.true) in
     record { result_value = both.0; out_after = both.1 }
 
 pub bytes_for-requires : goal.bytes_for-requires
 bytes_for-requires c =
-    let m = buffer_small (start c.before.before.before.before.before.before).args.n c.if-n-ge13.false in omega arith
+    let m = buffer_small c.args.n c.if-n-ge-BUFFERS.false in omega arith
 
 pub returns-then-out-bytes_for : goal.returns-then-out-bytes_for
 returns-then-out-bytes_for c =
-    let s = start c.before.before.before.before.before.before.before.before in
-    let l = length_buffer s.args.n s.args.«data».now in
-    let both = short (rungs s) (bits-of s) s.args.out.now (all_right c.before.before.before.before) (omega arith) in
+    let a = c.args in
+    let both =
+    no_room a.table.now a.n a.«data».now a.res a.out.now c.requires c.if-n-ge-BUFFERS.false _ c.word_width.ensures c.if-limit-data.false
+    (sym c.is_buffer.ensures ∙ c.if-not-is_buffer.false)
+    (omega arith) in
     record { result_value = both.0; out_after = both.1 }
-
-pub write_buffer-requires : goal.write_buffer-requires
-write_buffer-requires c =
-    let m = buffer_small (start c.before.before.before.before.before.before.before.before.before).args.n c.if-n-ge13.false in record { n_bound = c.if-n-ge13.false; run = record { inside = omega arith; counted = omega arith } }
-
-pub finish-requires : goal.finish-requires
-finish-requires c =
-    omega arith
 
 pub returns : goal.returns
 returns c =
-    let s = start c.before.before.before.before.before.before.before.before.before.before.before.before.before.before.before.before in
-    let a = s.args in
-    let w = c.buffer_width-width.result in
-    let e : w ≡ bits (buffer a.n) = c.buffer_width-width.ensures in
-    let l = length_buffer a.n a.«data».now in
-    let wrote = c.write_buffer in
-    let end = c.finish in
-    let both = done (rungs s) (bits-of s) a.out.now (all_right c.before.before.before.before.before.before.before.before.before.before.before.before) (omega arith) w (e ∙ sym l) c.finish.new.out
-    (finished (bits-of s) w a.out.now c.write_buffer.new.out c.finish.new.out (l ∙ sym e)
-    (are_bytes a.out.now c.slice_known-1.given)
-    (are_bytes c.finish.new.out c.slice_known-3-1.given)
-    (wrote.ensures ∙ ap (λ (k : ℕ). paste (bits_of a.out.now) 0 (bits-of s) k) (sym e))
-    end.ensures) in
+    let a = c.args in
+    let both =
+    wrote a.table.now a.n a.«data».now a.res a.out.now c.requires c.if-n-ge-BUFFERS.false _ c.word_width.ensures c.if-limit-data.false
+    (sym c.is_buffer.ensures ∙ c.if-not-is_buffer.false)
+    _ c.buffer_width-width.ensures (omega arith) c.write_buffer.new.out c.finish.new.out (are_bytes a.out.now (search rules))
+    (are_bytes c.finish.new.out c.type_inv.out)
+    c.write_buffer.ensures c.finish.ensures in
     record { result_value = both.0; out_after = both.1 }

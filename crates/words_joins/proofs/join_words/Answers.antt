@@ -1,166 +1,133 @@
 -- `words_joins::join_words` meets its contract: the types join or they do not, then one word and the other. Assumes nothing.
-use Prim.Native.Nat.{ℕ, ◌+◌, ◌-◌, ◌≤◌}
-use mathlib.Core.Path.{◌≡◌, sym, ap₂, ◌∙◌}
-use mathlib.Core.Bool.{Bool, true}
+use Prim.Native.Nat.{ℕ, ◌+◌, ◌-◌, ◌%◌, ◌≤◌, ◌<◌}
+use mathlib.Core.Path.{◌≡◌, refl, sym, ap, ap₂, ◌∙◌}
+use mathlib.Core.Bool.{Bool, true, false}
 use mathlib.Core.List.{List, [], ◌∷◌, ◌++◌}
 use native.Mathlib.Omega.{arith}
-use lib.ListN.{length, length-append}
+use lib.ListN.{length, take, drop, length-append}
+use Rattle.std.specs.Prelude.{Option, None, Some}
+use Rattle.std.specs.Bool.{then_some}
+use Rattle.std.specs.Option.{ok_or}
+use Rattle.answers.specs.declared.Refusal.{Refusal}
+use Rattle.answers.specs.Verdicts.{count_of}
+use Rattle.answers.proofs.Exits.{handed_on}
 use Rattle.meaning.specs.Types.{bits}
-use Rattle.meaning.specs.Tables.{Table, table}
-use Rattle.meaning.specs.Bits.{written}
+use Rattle.meaning.specs.Tables.{Table}
+use Rattle.meaning.specs.Bits.{bits_of, room, written}
 use Rattle.meaning.specs.Words.{joins}
-use Rattle.meaning.specs.Ladder.{accepted, Rung, ladder, Record, record_of, type_at, type_of, record_bits}
+use Rattle.meaning.specs.Ladder.{refused, accepted, Rung, ladder, Record, record_of, type_at, type_of, record_bits}
 use Rattle.meaning.specs.RecordCalls.{handed, product_bits}
-use Rattle.meaning.specs.WordCalls.{join_rungs}
-use Rattle.checked.specs.Passed.{Held}
+use Rattle.meaning.specs.WordCalls.{join_rungs, join_call, join_out}
+use Rattle.bits.specs.Runs.{Run}
+use Rattle.checked.specs.Passed.{Held, Named}
 use Rattle.checked.proofs.Passes.{handed_passes}
 use Rattle.checked.proofs.Made.{stopped, short, done}
 use Rattle.checked.proofs.Shaped.{shape_wrong, shape-right}
-use Rattle.checked.proofs.Lent.{starts, lent_run, lent_bits, own_length}
-use Rattle.words_laws.proofs.Joins.{unjoined, joined, first_width, second_width, whole_width}
-use Rattle.words_joins.proofs.join_words.Lts as lts
-use Rattle.words_joins.proofs.join_words.Tie as tie
-use Rattle.words_joins.proofs.join_words.Reads as reads
+use Rattle.checked.proofs.Lent.{lent, lent_run, lent_bits, own_length}
+use Rattle.words_laws.proofs.Joins.{second_width, whole_width}
 use Rattle.words_joins.proofs.join_words.Goals as goal
 
--- The places of the code that the lemmas below speak of.
-abbrev Start : Type 0
-Start = lts.Start tie.the-claims reads.Pre reads.Post tie.handed_clauses
+-- What an answer of `half_of` says.
+some_half : (j : Bool) (w h : ℕ) → then_some j w ≡ Some h → (j ≡ true) × (h ≡ w)
+some_half true w h e = (refl, cc)
+some_half false w h e = absurd (cc)
 
-abbrev After-half_of : Type 0
-After-half_of = lts.After-half_of tie.the-claims reads.Pre reads.Post tie.handed_clauses
+no_half : (j : Bool) (w : ℕ) → then_some j w ≡ None → j ≡ false
+no_half true w e = absurd (cc)
+no_half false w e = refl
 
-abbrev Else1 : Type 0
-Else1 = lts.Else1 tie.the-claims reads.Pre reads.Post tie.handed_clauses
+module _ (t : Table) (a b : Record) (res : ℕ) (out : List ℕ) (ha : Held t a) (hb : Held t b) (hr : Named t res) where
+  -- The rungs before 7, and its test.
+  abbrev before7 : List Rung
+  before7 = handed t (a ∷ b ∷ []) (res ∷ [])
 
--- The table that the columns and the groups make and the two records; the rungs before 7, its test, all rungs of the call and the record's bits.
-abbrev of : Start → Table
-of s =
-    table s.args.kinds.now s.args.lefts.now s.args.rights.now s.args.groups.now s.args.count
+  abbrev fits : Bool
+  fits = joins (type_of t a) (type_of t b) (type_at t res)
 
-abbrev first : Start → Record
-first s = record_of s.args.a_bytes.now s.args.a_offset s.args.a_node
+  passed : ladder before7 (tt {0}) ≡ accepted (tt {0})
+  passed = handed_passes t hr.sound (a ∷ b ∷ []) (res ∷ []) (ha, (hb, tt)) (hr, tt)
 
-abbrev second : Start → Record
-second s = record_of s.args.b_bytes.now s.args.b_offset s.args.b_node
+  apart : fits ≡ false → (refused 7 0 ≡ join_call t a b res out) × (out ≡ join_out t a b res out)
+  apart f = stopped (join_rungs t a b res) (product_bits t a b) out 7 0 (shape_wrong before7 fits passed f)
 
-abbrev before7 : Start → List Rung
-before7 s = handed (of s) (first s ∷ second s ∷ []) (s.args.res ∷ [])
+  -- Past the test of 7 the types join, and the width is that of either word and half of the result's.
+  module _ (h : ℕ) (e : then_some fits (bits (type_of t a)) ≡ Some h) where
+    joining : fits ≡ true
+    joining = (some_half fits _ h e).0
 
-abbrev fits : Start → Bool
-fits s = joins (type_of (of s) (first s)) (type_of (of s) (second s)) (type_at (of s) s.args.res)
+    one : h ≡ bits (type_of t a)
+    one = (some_half fits _ h e).1
 
-abbrev rungs : Start → List Rung
-rungs s = join_rungs (of s) (first s) (second s) s.args.res
+    two : h ≡ bits (type_of t b)
+    two = one ∙ second_width (type_of t a) (type_of t b) (type_at t res) joining
 
-abbrev bits-of : Start → List Bool
-bits-of s = product_bits (of s) (first s) (second s)
+    most : h + h ≤ 524288
+    most = omega (arith, one, whole_width (type_of t a) (type_of t b) (type_at t res) joining, hr.narrow)
 
-first_held : (s : Start) → Held (of s) (first s)
-first_held s = s.requires.held
+    count_is : length (product_bits t a b) ≡ h + h
+    count_is =
+        omega (arith, one, two, own_length t a ha, own_length t b hb, length-append (record_bits t a) (record_bits t b))
 
-second_held : (s : Start) → Held (of s) (second s)
-second_held s = s.requires.held_2
+    clear : ladder (join_rungs t a b res) (tt {0}) ≡ accepted (tt {0})
+    clear = shape-right before7 fits passed joining
 
-passed : (s : Start) → ladder (before7 s) (tt {0}) ≡ accepted (tt {0})
-passed s =
-    handed_passes (of s) s.requires.named.sound (first s ∷ second s ∷ []) (s.args.res ∷ []) (first_held s, (second_held s, tt)) (s.requires.named, tt)
+    no_room : length out < room (h + h) → (refused 9 0 ≡ join_call t a b res out) × (out ≡ join_out t a b res out)
+    no_room l = short (join_rungs t a b res) (product_bits t a b) out clear (omega (arith, count_is, l))
 
--- What the function is given, at any place past the first call.
-abbrev start : After-half_of → Start
-start c = c.before.before.before.before.before.before.before.before
+    -- The other half of the whole.
+    rest_is : h + h - h ≡ bits (type_of t b)
+    rest_is = omega (arith, two)
 
--- Past the test of 7 the types join, and the width is that of either word and half of the result's.
-joining : (c : Else1) → fits (start c.before) ≡ true
-joining c =
-    let s = start c.before in
-    joined (type_of (of s) (first s)) (type_of (of s) (second s)) (type_at (of s) s.args.res) c.half_of-half.result c.half_of-half.ensures c.if-half-eq0.false
+    second_run : Run (lent b) (b.offset % 8) (h + h - h)
+    second_run = lent_run t b hb (h + h - h) rest_is
 
-record Widths (s : Start) (half : ℕ) : Type 0 where
-  one : half ≡ bits (type_of (of s) (first s))
-  two : half ≡ bits (type_of (of s) (second s))
-  most : half + half ≤ 524288
+    wrote : room (h + h) ≤ length out → (new : List ℕ)
+        → new ≡ written (take h (drop (a.offset % 8) (bits_of (lent a))) ++ take (h + h - h) (drop (b.offset % 8) (bits_of (lent b)))) out
+        → (accepted (h + h) ≡ join_call t a b res out) × (new ≡ join_out t a b res out)
+    wrote l new w =
+        done (join_rungs t a b res) (product_bits t a b) out clear (omega (arith, count_is, l)) (h + h) (sym count_is) new
+        (w ∙ ap₂ (λ (p q : List Bool). written (p ++ q) out) (lent_bits t a ha h one) (lent_bits t b hb (h + h - h) rest_is))
 
-widths : (c : Else1) → Widths (start c.before) c.half_of-half.result
-widths c =
-    let s = start c.before in
-    let a = type_of (of s) (first s) in
-    let b = type_of (of s) (second s) in
-    let r = type_at (of s) s.args.res in
-    let w = c.half_of-half.result in
-    let e = c.half_of-half.ensures in
-    let all = whole_width a b r w e (joining c) in
-    let n = s.requires.named.narrow in
-    record { one = first_width a b r w e (joining c); two = second_width a b r w e (joining c); most = omega arith }
-
-all_right : (c : Else1) → ladder (rungs (start c.before)) (tt {0}) ≡ accepted (tt {0})
-all_right c = let s = start c.before in shape-right (before7 s) (fits s) (passed s) (joining c)
-
-count_is : (c : Else1) → length (bits-of (start c.before)) ≡ c.half_of-half.result + c.half_of-half.result
-count_is c =
-    let s = start c.before in
-    let w = widths c in
-    let d = w.one in
-    let e = w.two in
-    let a = own_length (of s) (first s) (first_held s) in
-    let b = own_length (of s) (second s) (second_held s) in
-    let l = length-append (record_bits (of s) (first s)) (record_bits (of s) (second s)) in
-    omega arith
-
--- The other half of the whole.
-rest_is : (h : ℕ) → h + h - h ≡ h
-rest_is h = omega arith
-
-pub half_of-half-requires : goal.half_of-half-requires
-half_of-half-requires c =
-    record { named = c.requires.held.named; named_2 = c.requires.held_2.named; named_3 = c.requires.named }
-
-pub returns-then-half-eq0 : goal.returns-then-half-eq0
-returns-then-half-eq0 c =
-    let s = start c.before.before in
-    let both = stopped (rungs s) (bits-of s) s.args.out.now 7 0
-    (shape_wrong (before7 s) (fits s) (passed s)
-    (unjoined (type_of (of s) (first s)) (type_of (of s) (second s)) (type_at (of s) s.args.res) c.half_of-half.result c.half_of-half.ensures c.if-half-eq0.true)) in
-    record { result_value = both.0; out_after = both.1 }
-
-pub overflow_add-whole : goal.overflow_add-whole
-overflow_add-whole c =
-    let m = (widths c.before).most in record { fits = omega arith }
-
-pub bytes_for-requires : goal.bytes_for-requires
-bytes_for-requires c =
-    let m = (widths c.before).most in omega arith
+pub returns-in_err-half : goal.returns-in_err-half
+returns-in_err-half c =
+    let a = c.args in
+    let r = c.requires in
+    let first = record_of a.a_bytes.now a.a_offset a.a_node in
+    let second = record_of a.b_bytes.now a.b_offset a.b_node in
+    let none = c.in_err-half.ensures.ok_part in
+    let both = apart a.table.now first second a.res a.out.now r.held r.held_2 r.named (no_half _ _ (sym c.half_of.ensures ∙ none)) in record {
+      result_value =
+          handed_on (λ n. n) _ _ c.from_residual.ensures.1 _
+          (ap count_of (c.in_err-half.ensures.value ∙ ap (λ (o : Option ℕ). ok_or o Refusal.WrongShape) none) ∙ both.0);
+      out_after = both.1;
+    }
 
 pub returns-then-out-bytes_for : goal.returns-then-out-bytes_for
 returns-then-out-bytes_for c =
-    let s = start c.before.before.before.before in
-    let n = count_is c.before.before.before in
-    let both = short (rungs s) (bits-of s) s.args.out.now (all_right c.before.before.before) (omega arith) in
+    let a = c.args in
+    let r = c.requires in
+    let first = record_of a.a_bytes.now a.a_offset a.a_node in
+    let second = record_of a.b_bytes.now a.b_offset a.b_node in
+    let both =
+    no_room a.table.now first second a.res a.out.now r.held r.held_2 r.named c.in_ok-half.half (sym c.half_of.ensures ∙ c.in_ok-half.ensures.ok_part)
+    (omega arith) in
     record { result_value = both.0; out_after = both.1 }
 
-pub slice_bounds-write_product-count : goal.slice_bounds-write_product-count
-slice_bounds-write_product-count c =
-    let s = start c.before.before.before.before.before in starts (of s) (first s) (first_held s)
-
-pub slice_bounds-write_product-count-2 : goal.slice_bounds-write_product-count-2
-slice_bounds-write_product-count-2 c =
-    let s = start c.before.before.before.before.before.before in starts (of s) (second s) (second_held s)
-
-pub write_product-requires : goal.write_product-requires
-write_product-requires c =
-    let s = start c.before.before.before.before.before.before.before in
-    let w = widths c.before.before.before.before.before.before in
-    let m = w.most in
-    let h = c.half_of-half.result in record { m_le_whole = omega arith; run = record { inside = omega arith; counted = omega arith }; run_2 = lent_run (of s) (first s) (first_held s) h w.one; run_3 = lent_run (of s) (second s) (second_held s) (h + h - h) (rest_is h ∙ w.two) }
+pub write_product-requires-clause-run_3 : goal.write_product-requires-clause-run_3
+write_product-requires-clause-run_3 c =
+    let a = c.args in
+    let r = c.requires in
+    let first = record_of a.a_bytes.now a.a_offset a.a_node in
+    let second = record_of a.b_bytes.now a.b_offset a.b_node in
+    second_run a.table.now first second a.res a.out.now r.held r.held_2 r.named c.in_ok-half.half (sym c.half_of.ensures ∙ c.in_ok-half.ensures.ok_part)
 
 pub returns : goal.returns
 returns c =
-    let s = start c.before.before.before.before.before.before.before.before.before.before in
-    let w = widths c.before.before.before.before.before.before.before.before.before in
-    let n = count_is c.before.before.before.before.before.before.before.before.before in
-    let h = c.half_of-half.result in
-    let both = done (rungs s) (bits-of s) s.args.out.now (all_right c.before.before.before.before.before.before.before.before.before) (omega arith) (h + h) (sym n) c.write_product.new.out
-    (c.write_product.ensures
-    ∙ ap₂ (λ (p q : List Bool). written (p ++ q) s.args.out.now) (lent_bits (of s) (first s) (first_held s) h w.one)
-    (lent_bits (of s) (second s) (second_held s) (h + h - h) (rest_is h ∙ w.two))) in
+    let a = c.args in
+    let r = c.requires in
+    let first = record_of a.a_bytes.now a.a_offset a.a_node in
+    let second = record_of a.b_bytes.now a.b_offset a.b_node in
+    let both =
+    wrote a.table.now first second a.res a.out.now r.held r.held_2 r.named c.in_ok-half.half (sym c.half_of.ensures ∙ c.in_ok-half.ensures.ok_part)
+    (omega arith) c.write_product.new.out c.write_product.ensures in
     record { result_value = both.0; out_after = both.1 }

@@ -1,71 +1,64 @@
--- `words_segments::write_buffer` meets its contract. The loop's invariant: i segments are written, and what follows in the buffer are the
--- segments below them, holding the data that is left. Assumes nothing.
+-- `words_segments::write_buffer` meets its contract. Assumes nothing.
 use Prim.Native.Nat.{ℕ, suc, ◌+◌, ◌-◌, ◌*◌, ◌^◌, ◌≤◌, ◌<◌}
 use mathlib.Core.Path.{◌≡◌, refl, sym, ap, ap₂, ◌∙◌}
 use mathlib.Core.Bool.{Bool}
 use mathlib.Core.List.{List}
 use native.Mathlib.Omega.{arith}
-use lib.ListN.{length, take, drop, length-drop}
+use lib.ListN.{length, get_or, take, drop, length-drop}
 use lib.Seq.{paste, paste-zero}
 use Rattle.meaning.specs.Types.{bits}
 use Rattle.meaning.specs.Bits.{bits_of}
-use Rattle.meaning.specs.Words.{segment_bits, buffer, buffer_bits}
+use Rattle.meaning.specs.Words.{word_widths, segment_bits, buffer, buffer_bits}
 use Rattle.meaning.proofs.WordWidths.{word-widths}
 use Rattle.bits.proofs.OfBytes.{tail}
 use Rattle.words_laws.specs.Segments.{held_by}
 use Rattle.words_laws.proofs.Parts.{segments, held_most, buffer_small, parts_begin, part_room, part_next, part_paste, parts_end}
-use Rattle.words_segments.proofs.write_buffer.Lts as lts
-use Rattle.words_segments.proofs.write_buffer.Tie as tie
-use Rattle.words_segments.proofs.write_buffer.Reads as reads
 use Rattle.words_segments.proofs.write_buffer.Goals as goal
 
--- The places of the code that the lemmas below speak of.
-abbrev In-loop : Type 0
-In-loop = lts.In-loop tie.the-claims reads.Pre reads.Post goal.the-invariant-loop-i goal.the-decreases-loop-i tie.handed_clauses
+-- A turn of the loop: i segments are written, and segment n − i is next.
+module _ (n i at done : ℕ) (held : List ℕ) (h : n < 13) (l : i ≤ n) (a : at ≤ bits (buffer n)) (d : done ≤ length held)
+    (p : drop at (buffer_bits n held) ≡ segments (n + 1 - i) (drop done held)) where
+  -- The number of the segment, and the data that is left.
+  abbrev k : ℕ
+  k = n - i
 
-abbrev After-write_segment : Type 0
-After-write_segment = lts.After-write_segment tie.the-claims reads.Pre reads.Post goal.the-invariant-loop-i goal.the-decreases-loop-i tie.handed_clauses
+  abbrev rest : List ℕ
+  rest = drop done held
 
-abbrev After-word_width : Type 0
-After-word_width = lts.After-word_width tie.the-claims reads.Pre reads.Post goal.the-invariant-loop-i goal.the-decreases-loop-i tie.handed_clauses
+  left : drop at (buffer_bits n held) ≡ segments (suc k) rest
+  left =
+      let one : n + 1 - i ≡ suc k = omega (arith, l) in
+      p ∙ ap (λ (j : ℕ). segments j rest) one
 
--- The number of the segment that is written in a turn, and the data that it is handed.
-abbrev now-at : In-loop → ℕ
-now-at c = c.args.n - c.loop-i.i
+  -- Its end lies within the buffer and within 65,541 bits.
+  ends : (at + (1 + 8 * 2 ^ k) ≤ bits (buffer n)) × (bits (buffer n) ≤ 65541)
+  ends = (part_room n k at done held a left, buffer_small n h)
 
-abbrev data-left : In-loop → List ℕ
-data-left c = drop c.loop-i.done c.args.held.now
+  -- How much of the data it holds.
+  module _ (m : ℕ) (e : m ≡ held_by k (take (length held - done) rest)) where
+    holds : m ≡ held_by k rest
+    holds = e ∙ ap (held_by k) (tail done held)
 
-left : (c : In-loop) → drop c.loop-i.at (buffer_bits c.args.n c.args.held.now) ≡ segments (suc (now-at c)) (data-left c)
-left c =
-    let one : c.args.n + 1 - c.loop-i.i ≡ suc (now-at c) = omega arith in
-    c.loop-i.invariant.4 ∙ ap (λ (k : ℕ). segments k (data-left c)) one
+    most : done + m ≤ length held
+    most = omega (arith, holds, held_most k rest, length-drop done held, d)
 
-fits : (c : In-loop) → c.loop-i.at + (1 + 8 * 2 ^ now-at c) ≤ bits (buffer c.args.n)
-fits c = part_room c.args.n (now-at c) c.loop-i.at c.loop-i.done c.args.held.now c.loop-i.invariant.3 (left c)
+    next : drop (at + (1 + 8 * 2 ^ k)) (buffer_bits n held) ≡ segments (n + 1 - (i + 1)) (drop (done + m) held)
+    next =
+        let below : k ≡ n + 1 - (i + 1) = omega (arith, l) in
+        part_next n k at done held a left ∙ ap₂ (λ (j z : ℕ). segments j (drop (done + z) held)) below (sym holds)
 
--- How much of the data the segment holds, and its size.
-handed : (c : After-write_segment)
-    → take (length c.args.held.now - c.loop-i.done) (data-left c.before.before.before) ≡ data-left c.before.before.before
-handed c = tail c.loop-i.done c.args.held.now
+  -- The bits that are written.
+  wrote : (old now new : List Bool) → now ≡ paste old 0 (buffer_bits n held) at
+      → new ≡ paste now at (segment_bits k (take (length held - done) rest)) (1 + 8 * 2 ^ k)
+      → new ≡ paste old 0 (buffer_bits n held) (at + (1 + 8 * 2 ^ k))
+  wrote old now new f g =
+      g
+      ∙ ap₂ (λ (v : List Bool) (z : List ℕ). paste v at (segment_bits k z) (1 + 8 * 2 ^ k)) f (tail done held)
+      ∙ part_paste n k at done held a left old
 
-holds : (c : After-write_segment) → c.write_segment-done.result ≡ held_by (now-at c.before.before.before) (data-left c.before.before.before)
-holds c = c.write_segment-done.ensures.value ∙ ap (held_by (now-at c.before.before.before)) (handed c)
-
-most : (c : After-write_segment) → c.loop-i.done + c.write_segment-done.result ≤ length c.args.held.now
-most c =
-    let h = holds c in
-    let m = held_most (now-at c.before.before.before) (data-left c.before.before.before) in
-    let l = length-drop c.loop-i.done c.args.held.now in
-    omega arith
-
-size : (c : After-word_width) → c.word_width.result ≡ 2 ^ now-at c.before.before.before.before.before.before
-size c = let n : c.args.n < 13 = c.requires.n_bound in c.word_width.ensures ∙ word-widths (now-at c.before.before.before.before.before.before) (omega arith)
-
--- The end of the segment, within the buffer and within 65,541 bits.
-ends : (c : After-word_width)
-    → (c.loop-i.at + (1 + 8 * c.word_width.result) ≤ bits (buffer c.args.n)) × (bits (buffer c.args.n) ≤ 65541)
-ends c = let e = size c in let f = fits c.before.before.before.before.before.before in (omega arith, buffer_small c.args.n c.requires.n_bound)
+  -- A segment's size.
+  size : (w : ℕ) → w ≡ get_or word_widths k 0 → w ≡ 2 ^ k
+  size w e = e ∙ word-widths k (omega (arith, h))
 
 pub loop-i-init : goal.loop-i-init
 loop-i-init c =
@@ -79,62 +72,67 @@ loop-i-init c =
       paste-zero (bits_of a.out.now) 0 (buffer_bits a.n a.held.now),
     )
 
-pub overflow_sub-k : goal.overflow_sub-k
-overflow_sub-k c =
-    omega arith
-
 pub write_segment-done-requires : goal.write_segment-done-requires
 write_segment-done-requires c =
-    let f = fits c.before.before.before in
-    let b = buffer_small c.args.n c.requires.n_bound in record { k_bound = omega arith; k_bound_2 = omega arith; run = record { inside = omega arith; counted = omega arith } }
+    let a = c.args in
+    let l = c.loop-i in
+    let v = l.invariant in
+    let e = ends a.n l.i l.at l.done a.held.now c.requires.n_bound (omega arith) v.3 v.2 v.4 in
+    record { k_bound = omega arith; k_bound_2 = omega arith; run = record { inside = omega arith; counted = omega arith } }
 
 pub overflow_add-done : goal.overflow_add-done
 overflow_add-done c =
-    let m = most c.before.before.before in record { fits = omega arith }
-
-pub word_width-requires : goal.word_width-requires
-word_width-requires c =
-    let n : c.args.n < 13 = c.requires.n_bound in omega arith
+    let a = c.args in
+    let l = c.loop-i in
+    let v = l.invariant in
+    let m =
+    most a.n l.i l.at l.done a.held.now c.requires.n_bound (omega arith) v.3 v.2 v.4 _ c.write_segment-done.ensures.value in
+    record { fits = omega arith }
 
 pub overflow_mul-at : goal.overflow_mul-at
 overflow_mul-at c =
-    let e = ends c.before in record { fits = omega arith }
+    let a = c.args in
+    let l = c.loop-i in
+    let v = l.invariant in
+    let w = size a.n l.i l.at l.done a.held.now c.requires.n_bound (omega arith) v.3 v.2 v.4 _ c.word_width.ensures in
+    let e = ends a.n l.i l.at l.done a.held.now c.requires.n_bound (omega arith) v.3 v.2 v.4 in
+    record { fits = omega arith }
 
 pub overflow_add-at : goal.overflow_add-at
 overflow_add-at c =
-    let e = ends c.before in record { fits = omega arith }
+    let a = c.args in
+    let l = c.loop-i in
+    let v = l.invariant in
+    let w = size a.n l.i l.at l.done a.held.now c.requires.n_bound (omega arith) v.3 v.2 v.4 _ c.word_width.ensures in
+    let e = ends a.n l.i l.at l.done a.held.now c.requires.n_bound (omega arith) v.3 v.2 v.4 in
+    record { fits = omega arith }
 
 pub overflow_add-at-in-loop-i : goal.overflow_add-at-in-loop-i
 overflow_add-at-in-loop-i c =
-    let e = ends c.before in record { fits = omega arith }
-
-pub overflow_step-i : goal.overflow_step-i
-overflow_step-i c =
+    let a = c.args in
+    let l = c.loop-i in
+    let v = l.invariant in
+    let w = size a.n l.i l.at l.done a.held.now c.requires.n_bound (omega arith) v.3 v.2 v.4 _ c.word_width.ensures in
+    let e = ends a.n l.i l.at l.done a.held.now c.requires.n_bound (omega arith) v.3 v.2 v.4 in
     record { fits = omega arith }
-
-pub loop-i-smaller : goal.loop-i-smaller
-loop-i-smaller c =
-    omega arith
 
 pub loop-i-preserved : goal.loop-i-preserved
 loop-i-preserved c =
     let a = c.args in
     let l = c.loop-i in
-    let k = now-at c.before.before.before.before.before.before.before in
-    let e = size c.before in
-    let n = a.n in
-    let below : k ≡ n + 1 - (l.i + 1) = omega arith in (
-      c.write_segment-done.auto.out ∙ l.invariant.0,
+    let v = l.invariant in
+    let n = c.requires.n_bound in
+    let w = size a.n l.i l.at l.done a.held.now n (omega arith) v.3 v.2 v.4 _ c.word_width.ensures in
+    let e = ends a.n l.i l.at l.done a.held.now n (omega arith) v.3 v.2 v.4 in
+    let s = c.write_segment-done.ensures in (
+      c.write_segment-done.auto.out ∙ v.0,
       omega arith,
-      most c.before.before.before.before,
-      (ends c.before).0,
-      ap (λ (z : ℕ). drop (l.at + (1 + 8 * z)) (buffer_bits n a.held.now)) e
-          ∙ part_next n k l.at l.done a.held.now l.invariant.3 (left c.before.before.before.before.before.before.before)
-          ∙ ap₂ (λ (j z : ℕ). segments j (drop (l.done + z) a.held.now)) below (sym (holds c.before.before.before.before)),
-      c.write_segment-done.ensures.out_after
-          ∙ ap₂ (λ (v : List Bool) (z : List ℕ). paste v l.at (segment_bits k z) (1 + 8 * 2 ^ k)) l.invariant.5 (handed c.before.before.before.before)
-          ∙ part_paste n k l.at l.done a.held.now l.invariant.3 (left c.before.before.before.before.before.before.before) (bits_of a.out.now)
-          ∙ ap (λ (z : ℕ). paste (bits_of a.out.now) 0 (buffer_bits n a.held.now) (l.at + (1 + 8 * z))) (sym e),
+      most a.n l.i l.at l.done a.held.now n (omega arith) v.3 v.2 v.4 _ s.value,
+      omega arith,
+      ap (λ (z : ℕ). drop (l.at + (1 + 8 * z)) (buffer_bits a.n a.held.now)) w
+          ∙ next a.n l.i l.at l.done a.held.now n (omega arith) v.3 v.2 v.4 _ s.value,
+      wrote a.n l.i l.at l.done a.held.now n (omega arith) v.3 v.2 v.4 (bits_of a.out.now) _ _ v.5 s.out_after
+          ∙ ap (λ (z : ℕ). paste (bits_of a.out.now) 0 (buffer_bits a.n a.held.now) (l.at + (1 + 8 * z))) (sym w),
     )
 
 pub returns : goal.returns

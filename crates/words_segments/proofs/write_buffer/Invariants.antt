@@ -18,7 +18,3 @@ invariant-loop-i l =
     × (l.at ≤ bits (buffer l.n))
     × (drop l.at (buffer_bits l.n l.held) ≡ segments (l.n + 1 - l.i) (drop l.done l.held))
     × (bits_of l.out ≡ paste (bits_of l.initial.out) 0 (buffer_bits l.n l.held) l.at)
-
-abbrev pub decreases-loop-i : goal.decreases-loop-i
-decreases-loop-i l =
-    l.n + 1 - l.i

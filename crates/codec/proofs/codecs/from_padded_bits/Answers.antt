@@ -7,134 +7,121 @@ use native.Mathlib.Omega.{arith}
 use lib.ListN.{length, take, drop, length-drop}
 use lib.Seq.{length-take-le}
 use Rattle.meaning.specs.Types.{bits}
-use Rattle.meaning.specs.Tables.{Table, table}
+use Rattle.meaning.specs.Tables.{Table}
 use Rattle.meaning.specs.Bits.{bits_of, written}
 use Rattle.meaning.specs.Codecs.{Decoded, decoded, is_early, decoded_record, consumed}
-use Rattle.meaning.specs.Ladder.{accepted, ladder, Stream, stream_of, type_at}
+use Rattle.meaning.specs.Ladder.{Stream, stream_of, type_at}
 use Rattle.meaning.specs.CodecCalls.{read_rungs, padded_in}
 use Rattle.bits.specs.Runs.{Run}
 use Rattle.bits.proofs.OfBytes.{length_bits_of}
+use Rattle.answers.proofs.Exits.{handed_on}
 use Rattle.checked.specs.Passed.{Streamed}
-use Rattle.checked.proofs.Passed.{stream_passed}
-use Rattle.checked.proofs.Read.{stopped, early, short, done}
+use Rattle.checked.proofs.Read.{stopped}
 use Rattle.checked.proofs.Lent.{lent_stream, stream_starts, padded_short, padded_run, padded_lent}
+use Rattle.codec.proofs.Passing.{streamed, reads_early, reads_short, reads_done}
 use Rattle.codec.proofs.codecs.from_padded_bits.Goals as goal
 
--- The first rungs have let the call pass.
-module _ (t : Table) (s : Stream) (node : ℕ) (h : accepted (tt {0}) ≡ ladder (read_rungs t s node) (tt {0})) where
-  streamed : Streamed t s node
-  streamed = stream_passed t s node (sym h)
+-- The width of a node is known.
+module _ {t : Table} {s : Stream} {node : ℕ} (w : Streamed t s node) {n : ℕ} (e : n ≡ bits (type_at t node)) where
+  ends : s.until - s.position < n → is_early (padded_in t s node) ≡ true
+  ends l = ap is_early (padded_short t s node w (omega arith))
 
-  -- The width is known.
-  module _ (n : ℕ) (e : n ≡ bits (type_at t node)) where
-    narrow : n ≤ 524288
-    narrow = omega (arith, e, streamed.named.narrow)
+  -- The stream has enough bits.
+  module _ (l : n ≤ s.until - s.position) where
+    -- The bits that are read, in the bytes lent.
+    abbrev read : List Bool
+    read = take n (drop (s.position % 8) (bits_of (lent_stream s)))
 
-    ends : s.until - s.position < n → is_early (padded_in t s node) ≡ true
-    ends l = ap is_early (padded_short t s node streamed (omega (arith, e)))
+    run : padded_in t s node ≡ decoded read n
+    run =
+        subst (λ (k : ℕ). padded_in t s node ≡ decoded (take k (drop (s.position % 8) (bits_of (lent_stream s)))) k) (sym e)
+        (padded_lent t s node w (omega arith))
 
-    -- The stream has enough bits.
-    module _ (l : n ≤ s.until - s.position) where
-      -- The bits that are read, in the bytes lent.
-      abbrev read : List Bool
-      read = take n (drop (s.position % 8) (bits_of (lent_stream s)))
+    lies : Run (lent_stream s) (s.position % 8) n
+    lies = subst (λ (k : ℕ). Run (lent_stream s) (s.position % 8) k) (sym e) (padded_run t s node w (omega arith))
 
-      run : padded_in t s node ≡ decoded read n
-      run =
-          subst (λ (k : ℕ). padded_in t s node ≡ decoded (take k (drop (s.position % 8) (bits_of (lent_stream s)))) k) (sym e)
-          (padded_lent t s node streamed (omega (arith, e)))
+    as_wide : n ≡ length (decoded_record (padded_in t s node))
+    as_wide =
+        let from = drop (s.position % 8) (bits_of (lent_stream s)) in
+        sym
+        (ap (λ (d : Decoded). length (decoded_record d)) run
+        ∙ length-take-le n from
+        (omega (arith, lies.inside, length-drop (s.position % 8) (bits_of (lent_stream s)), length_bits_of (lent_stream s))))
 
-      lies : Run (lent_stream s) (s.position % 8) n
-      lies = subst (λ (k : ℕ). Run (lent_stream s) (s.position % 8) k) (sym e) (padded_run t s node streamed (omega (arith, e)))
-
-      as_wide : length (decoded_record (padded_in t s node)) ≡ n
-      as_wide =
-          let from = drop (s.position % 8) (bits_of (lent_stream s)) in
-          ap (λ (d : Decoded). length (decoded_record d)) run
-          ∙ length-take-le n from
-          (omega (arith, lies.inside, length-drop (s.position % 8) (bits_of (lent_stream s)), length_bits_of (lent_stream s)))
-
-pub returns-in-Refused : goal.returns-in-Refused
-returns-in-Refused c =
+pub returns-in_err-checked : goal.returns-in_err-checked
+returns-in_err-checked c =
     let a = c.args in
-    let t = table a.kinds.now a.lefts.now a.rights.now a.groups.now a.count in
     let s = stream_of a.bytes.now a.until a.position in
-    let both = stopped (read_rungs t s a.node) s (padded_in t s a.node) a.out.now _ _ (sym c.in-Refused.ensures) in
-    record { result_value = both.0; out_after = both.1 }
-
-pub slice_bounds-src-count : goal.slice_bounds-src-count
-slice_bounds-src-count c =
-    let a = c.args in
-    let t = table a.kinds.now a.lefts.now a.rights.now a.groups.now a.count in
-    let s = stream_of a.bytes.now a.until a.position in
-    stream_starts t s a.node (streamed t s a.node c.in_default.ensures)
-
-pub slice_bounds-src-start : goal.slice_bounds-src-start
-slice_bounds-src-start c = slice_bounds-src-count c
+    let both =
+    stopped (read_rungs a.table.now s a.node) s (padded_in a.table.now s a.node) a.out.now _ _ (sym c.in_err-checked.ensures.answer) in
+    record { result_value = handed_on (λ n. n) _ _ c.from_residual.ensures.1 _ both.0; out_after = both.1 }
 
 pub width_of-width-requires : goal.width_of-width-requires
 width_of-width-requires c =
-    let a = c.args in
-    let t = table a.kinds.now a.lefts.now a.rights.now a.groups.now a.count in
-    (streamed t (stream_of a.bytes.now a.until a.position) a.node c.in_default.ensures).named
+    let s = stream_of c.args.bytes.now c.args.until c.args.position in
+    (streamed c.in_ok-checked.ensures.same s c.args.node c.in_ok-checked.ensures.answer).named
 
 pub overflow_sub-until : goal.overflow_sub-until
 overflow_sub-until c =
-    let a = c.args in
-    let t = table a.kinds.now a.lefts.now a.rights.now a.groups.now a.count in
-    (streamed t (stream_of a.bytes.now a.until a.position) a.node c.in_default.ensures).begins
+    let s = stream_of c.args.bytes.now c.args.until c.args.position in
+    (streamed c.in_ok-checked.ensures.same s c.args.node c.in_ok-checked.ensures.answer).begins
 
 pub returns-then-until-position : goal.returns-then-until-position
 returns-then-until-position c =
     let a = c.args in
-    let t = table a.kinds.now a.lefts.now a.rights.now a.groups.now a.count in
     let s = stream_of a.bytes.now a.until a.position in
-    let h = c.in_default.ensures in
+    let ok = c.in_ok-checked.ensures in
+    let w = streamed ok.same s a.node ok.answer in
     let both =
-    early (read_rungs t s a.node) s (padded_in t s a.node) a.out.now (sym h)
-    (ends t s a.node h _ c.width_of-width.ensures c.if-until-position.true) in
+    reads_early ok.same s a.node ok.answer (λ (t : Table). padded_in t s a.node) a.out.now
+    (ends w c.width_of-width.ensures c.if-until-position.true) in
     record { result_value = both.0; out_after = both.1 }
 
 pub bytes_for-requires : goal.bytes_for-requires
 bytes_for-requires c =
-    let a = c.args in
-    let t = table a.kinds.now a.lefts.now a.rights.now a.groups.now a.count in
-    omega (arith, narrow t (stream_of a.bytes.now a.until a.position) a.node c.in_default.ensures _ c.width_of-width.ensures)
+    let s = stream_of c.args.bytes.now c.args.until c.args.position in
+    let w = streamed c.in_ok-checked.ensures.same s c.args.node c.in_ok-checked.ensures.answer in
+    omega arith
 
 pub returns-then-out-bytes_for : goal.returns-then-out-bytes_for
 returns-then-out-bytes_for c =
     let a = c.args in
-    let t = table a.kinds.now a.lefts.now a.rights.now a.groups.now a.count in
     let s = stream_of a.bytes.now a.until a.position in
-    let h = c.in_default.ensures in
+    let ok = c.in_ok-checked.ensures in
+    let w = streamed ok.same s a.node ok.answer in
     let e = c.width_of-width.ensures in
     let l = c.if-until-position.false in
     let both =
-    short (read_rungs t s a.node) s (padded_in t s a.node) a.out.now (sym h) (ap is_early (run t s a.node h _ e l))
-    (omega (arith, c.if-out-bytes_for.true, c.bytes_for.ensures, as_wide t s a.node h _ e l)) in
+    reads_short ok.same s a.node ok.answer (λ (t : Table). padded_in t s a.node) a.out.now (ap is_early (run w e l)) (as_wide w e l)
+    (omega arith) in
     record { result_value = both.0; out_after = both.1 }
+
+pub slice_bounds-write_run-count : goal.slice_bounds-write_run-count
+slice_bounds-write_run-count c =
+    let s = stream_of c.args.bytes.now c.args.until c.args.position in
+    stream_starts _ s c.args.node (streamed c.in_ok-checked.ensures.same s c.args.node c.in_ok-checked.ensures.answer)
+
+pub slice_bounds-write_run-start : goal.slice_bounds-write_run-start
+slice_bounds-write_run-start c = slice_bounds-write_run-count c
 
 pub write_run-requires-clause-run_2 : goal.write_run-requires-clause-run_2
 write_run-requires-clause-run_2 c =
-    let a = c.args in
-    let t = table a.kinds.now a.lefts.now a.rights.now a.groups.now a.count in
-    lies t (stream_of a.bytes.now a.until a.position) a.node c.in_default.ensures _ c.width_of-width.ensures c.if-until-position.false
+    let s = stream_of c.args.bytes.now c.args.until c.args.position in
+    let w = streamed c.in_ok-checked.ensures.same s c.args.node c.in_ok-checked.ensures.answer in
+    lies w c.width_of-width.ensures c.if-until-position.false
 
 pub returns : goal.returns
 returns c =
     let a = c.args in
-    let t = table a.kinds.now a.lefts.now a.rights.now a.groups.now a.count in
     let s = stream_of a.bytes.now a.until a.position in
-    let h = c.in_default.ensures in
+    let ok = c.in_ok-checked.ensures in
+    let out = a.out.now in
+    let w = streamed ok.same s a.node ok.answer in
     let e = c.width_of-width.ensures in
     let l = c.if-until-position.false in
-    let out = a.out.now in
-    let got = run t s a.node h _ e l in
+    let got = run w e l in
     let both =
-    done (read_rungs t s a.node) s (padded_in t s a.node) out (sym h) (ap is_early got)
-    (omega (arith, c.if-out-bytes_for.false, c.bytes_for.ensures, as_wide t s a.node h _ e l))
-    _
+    reads_done ok.same s a.node ok.answer (λ (t : Table). padded_in t s a.node) out (ap is_early got) (as_wide w e l) (omega arith)
     (ap (λ (k : ℕ). a.position + k) (sym (ap consumed got)))
-    _
     (c.write_run.ensures ∙ ap (λ (v : List Bool). written v out) (sym (ap decoded_record got))) in
     record { result_value = both.0; out_after = both.1 }

@@ -1,85 +1,65 @@
 -- `codec::codecs::to_padded_bits` meets its contract. Assumes nothing.
-use mathlib.Core.Path.{◌≡◌, sym, ap, ◌∙◌}
+use mathlib.Core.Path.{sym, ap, ◌∙◌}
 use mathlib.Core.Bool.{Bool}
-use mathlib.Core.List.{List, [], ◌∷◌}
-use Prim.Native.Nat.{ℕ}
+use mathlib.Core.List.{List}
 use native.Mathlib.Omega.{arith}
-use lib.ListN.{length}
-use Rattle.meaning.specs.Types.{bits}
-use Rattle.meaning.specs.Tables.{Table, table}
+use Rattle.meaning.specs.Tables.{Table}
 use Rattle.meaning.specs.Bits.{written}
-use Rattle.meaning.specs.Ladder.{accepted, ladder, Record, record_of, type_of, record_bits}
+use Rattle.meaning.specs.Ladder.{record_of, record_bits}
 use Rattle.meaning.specs.CodecCalls.{write_rungs}
-use Rattle.checked.specs.Passed.{Held}
-use Rattle.checked.proofs.Passed.{handed_passed}
-use Rattle.checked.proofs.Made.{stopped, short, done}
+use Rattle.answers.proofs.Exits.{handed_on}
+use Rattle.checked.proofs.Made.{stopped}
 use Rattle.checked.proofs.Lent.{starts, lent_run, lent_bits, own_length}
+use Rattle.codec.proofs.Passing.{held, writes_short, writes_done}
 use Rattle.codec.proofs.codecs.to_padded_bits.Goals as goal
 
--- The first rungs have let the call pass.
-module _ (t : Table) (r : Record) (h : accepted (tt {0}) ≡ ladder (write_rungs t r) (tt {0})) where
-  held : Held t r
-  held = (handed_passed t (r ∷ []) [] (sym h)).0.0
-
-  counted : {n : ℕ} → n ≡ bits (type_of t r) → n ≡ length (record_bits t r)
-  counted e = e ∙ sym (own_length t r held)
-
-pub returns-in-Refused : goal.returns-in-Refused
-returns-in-Refused c =
+pub returns-in_err-checked : goal.returns-in_err-checked
+returns-in_err-checked c =
     let a = c.args in
-    let t = table a.kinds.now a.lefts.now a.rights.now a.groups.now a.count in
     let r = record_of a.bytes.now a.offset a.node in
-    let both = stopped (write_rungs t r) (record_bits t r) a.out.now _ _ (sym c.in-Refused.ensures) in
-    record { result_value = both.0; out_after = both.1 }
-
-pub slice_bounds-src-count : goal.slice_bounds-src-count
-slice_bounds-src-count c =
-    let a = c.args in
-    let t = table a.kinds.now a.lefts.now a.rights.now a.groups.now a.count in
-    let r = record_of a.bytes.now a.offset a.node in
-    starts t r (held t r c.in_default.ensures)
-
-pub slice_bounds-src-start : goal.slice_bounds-src-start
-slice_bounds-src-start c = slice_bounds-src-count c
+    let both = stopped (write_rungs a.table.now r) (record_bits a.table.now r) a.out.now _ _ (sym c.in_err-checked.ensures.answer) in
+    record { result_value = handed_on (λ n. n) _ _ c.from_residual.ensures.1 _ both.0; out_after = both.1 }
 
 pub width_of-width-requires : goal.width_of-width-requires
 width_of-width-requires c =
-    let a = c.args in
-    let t = table a.kinds.now a.lefts.now a.rights.now a.groups.now a.count in
-    (held t (record_of a.bytes.now a.offset a.node) c.in_default.ensures).named
+    let r = record_of c.args.bytes.now c.args.offset c.args.node in
+    (held c.in_ok-checked.ensures.same r c.in_ok-checked.ensures.answer).named
 
 pub bytes_for-requires : goal.bytes_for-requires
 bytes_for-requires c =
-    let a = c.args in
-    let t = table a.kinds.now a.lefts.now a.rights.now a.groups.now a.count in
-    omega (arith, c.width_of-width.ensures, (held t (record_of a.bytes.now a.offset a.node) c.in_default.ensures).named.narrow)
+    let r = record_of c.args.bytes.now c.args.offset c.args.node in
+    let w = held c.in_ok-checked.ensures.same r c.in_ok-checked.ensures.answer in
+    omega arith
 
 pub returns-then-out-bytes_for : goal.returns-then-out-bytes_for
 returns-then-out-bytes_for c =
-    let a = c.args in
-    let t = table a.kinds.now a.lefts.now a.rights.now a.groups.now a.count in
-    let r = record_of a.bytes.now a.offset a.node in
-    let n = counted t r c.in_default.ensures c.width_of-width.ensures in
-    let both =
-    short (write_rungs t r) (record_bits t r) a.out.now (sym c.in_default.ensures) (omega (arith, c.if-out-bytes_for.true, c.bytes_for.ensures, n)) in
+    let r = record_of c.args.bytes.now c.args.offset c.args.node in
+    let ok = c.in_ok-checked.ensures in
+    let counted = c.width_of-width.ensures ∙ sym (own_length _ r (held ok.same r ok.answer)) in
+    let both = writes_short ok.same r ok.answer (λ (t : Table). record_bits t r) c.args.out.now counted (omega arith) in
     record { result_value = both.0; out_after = both.1 }
+
+pub slice_bounds-write_run-count : goal.slice_bounds-write_run-count
+slice_bounds-write_run-count c =
+    let r = record_of c.args.bytes.now c.args.offset c.args.node in
+    starts _ r (held c.in_ok-checked.ensures.same r c.in_ok-checked.ensures.answer)
+
+pub slice_bounds-write_run-start : goal.slice_bounds-write_run-start
+slice_bounds-write_run-start c = slice_bounds-write_run-count c
 
 pub write_run-requires-clause-run_2 : goal.write_run-requires-clause-run_2
 write_run-requires-clause-run_2 c =
-    let a = c.args in
-    let t = table a.kinds.now a.lefts.now a.rights.now a.groups.now a.count in
-    let r = record_of a.bytes.now a.offset a.node in
-    lent_run t r (held t r c.in_default.ensures) _ c.width_of-width.ensures
+    let r = record_of c.args.bytes.now c.args.offset c.args.node in
+    lent_run _ r (held c.in_ok-checked.ensures.same r c.in_ok-checked.ensures.answer) _ c.width_of-width.ensures
 
 pub returns : goal.returns
 returns c =
-    let a = c.args in
-    let t = table a.kinds.now a.lefts.now a.rights.now a.groups.now a.count in
-    let r = record_of a.bytes.now a.offset a.node in
-    let h = c.in_default.ensures in
-    let out = a.out.now in
-    let n = counted t r h c.width_of-width.ensures in
+    let r = record_of c.args.bytes.now c.args.offset c.args.node in
+    let ok = c.in_ok-checked.ensures in
+    let out = c.args.out.now in
+    let w = held ok.same r ok.answer in
+    let counted = c.width_of-width.ensures ∙ sym (own_length _ r w) in
     let both =
-    done (write_rungs t r) (record_bits t r) out (sym h) (omega (arith, c.if-out-bytes_for.false, c.bytes_for.ensures, n)) _ n _
-    (c.write_run.ensures ∙ ap (λ (v : List Bool). written v out) (lent_bits t r (held t r h) _ c.width_of-width.ensures)) in
+    writes_done ok.same r ok.answer (λ (t : Table). record_bits t r) out counted (omega arith)
+    (c.write_run.ensures ∙ ap (λ (v : List Bool). written v out) (lent_bits _ r w _ c.width_of-width.ensures)) in
     record { result_value = both.0; out_after = both.1 }

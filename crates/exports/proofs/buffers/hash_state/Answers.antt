@@ -4,7 +4,7 @@ use borrow.Author.Rules.{rules}
 use borrow.Author.Tests.{eq-eqb, ne_eqb, lt-leb}
 use mathlib.Core.Path.{refl}
 use lib.ListN.{length, replicate}
-use Rattle.exports.proofs.States.{no_stand, stands}
+use Rattle.exports.proofs.States.{no_stand, stands, at_front}
 use Rattle.exports.proofs.buffers.hash_state.Goals as goal
 
 pub returns-then-midstate-ne32 : goal.returns-then-midstate-ne32
@@ -25,11 +25,5 @@ returns-then-buffer-gt63 c =
 pub returns : goal.returns
 returns c =
     let a = c.args in
-    stands a.midstate.now a.bytes_hashed a.buffer.now (replicate 32 0) (replicate 63 0) _
-    (search rules)
-    (search rules)
-    refl
-    c.copy_front.ensures
-    refl
-    c.copy_front-2.ensures
-    refl
+    stands a.midstate.now a.bytes_hashed a.buffer.now _ (search rules) (search rules) c.copy_from_slice.ensures.after refl
+    (at_front a.buffer.now _ _ c.copy_from_slice-2.ensures.after) refl

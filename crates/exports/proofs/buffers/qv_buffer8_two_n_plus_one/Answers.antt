@@ -1,12 +1,20 @@
 -- `exports::buffers::qv_buffer8_two_n_plus_one` meets its contract: what crosses is what the call says, and its place is near. Assumes nothing.
+use mathlib.Core.Path.{ap, ◌∙◌}
+use Rattle.meaning.specs.Tables.{Table}
+use Rattle.meaning.specs.WordCalls.{buffer_call, buffer_out}
 use Rattle.exports.proofs.Nears.{buffer_near}
-use Rattle.exports_answers.proofs.Crossing.{crossing}
+use Rattle.exports_answers.proofs.Crossing.{crossing, code_of, stored_of}
 use Rattle.exports.proofs.buffers.qv_buffer8_two_n_plus_one.Goals as goal
 
-pub tell_count-requires : goal.tell_count-requires
-tell_count-requires c =
+pub tell_number-requires : goal.tell_number-requires
+tell_number-requires c =
     search (crossing, buffer_near)
 
 pub returns : goal.returns
 returns c =
-    record { value = search crossing; width_after = search crossing; out_after = search crossing }
+    let e = c.buffer8_two_n_plus_one.ensures.result_value ∙ ap (λ (t : Table). buffer_call t c.args.n c.args.«data».now c.args.res c.args.out.now) c.new-table.ensures in
+    record {
+      value = code_of (λ n. n) _ _ e _ c.tell_number.ensures.value;
+      width_after = stored_of (λ n. n) _ _ e (λ n. n) _ _ c.tell_number.ensures.value_after;
+      out_after = c.buffer8_two_n_plus_one.ensures.out_after ∙ ap (λ (t : Table). buffer_out t c.args.n c.args.«data».now c.args.res c.args.out.now) c.new-table.ensures;
+    }

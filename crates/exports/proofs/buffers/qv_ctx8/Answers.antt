@@ -1,53 +1,30 @@
 -- `exports::buffers::qv_ctx8` meets its contract: `ctx8` answers for the struct as for the slices. Assumes nothing.
-use mathlib.Core.Path.{◌≡◌, ◌∙◌}
-use Rattle.answers.specs.Verdicts.{count_of}
-use Rattle.meaning.specs.Tables.{Table, table}
-use Rattle.exports.specs.Handed.{ctx8_handed}
+use mathlib.Core.Path.{ap, ◌∙◌}
+use Rattle.exports.specs.Handed.{ctx8_handed, ctx8_handed_out}
+use Rattle.meaning.specs.Tables.{Table}
 use Rattle.exports.proofs.Nears.{ctx8_near}
-use Rattle.exports_answers.proofs.Crossing.{crossing}
+use Rattle.exports_answers.proofs.Crossing.{near_of, code_of, stored_of}
 use Rattle.exports.proofs.States.{handed_call, handed_out}
-use Rattle.exports.proofs.buffers.qv_ctx8.Lts as lts
-use Rattle.exports.proofs.buffers.qv_ctx8.Tie as tie
-use Rattle.exports.proofs.buffers.qv_ctx8.Reads as reads
 use Rattle.exports.proofs.buffers.qv_ctx8.Goals as goal
 
--- The places of the code that the lemmas below speak of.
-abbrev Start : Type 0
-Start = lts.Start tie.the-claims reads.Pre reads.Post tie.handed_clauses
-
-abbrev After-ctx8 : Type 0
-After-ctx8 = lts.After-ctx8 tie.the-claims reads.Pre reads.Post tie.handed_clauses
-
--- The table that the columns and the groups make.
-abbrev of : Start → Table
-of c =
-    table c.args.kinds.now c.args.lefts.now c.args.rights.now c.args.groups.now c.args.count
-
--- Where the function begins, seen from the call of `ctx8`.
-abbrev start : After-ctx8 → Start
-start c = c.before.before.before.before.before.before.before.before.before.before
-
--- What `ctx8` says of the struct, said of the slices.
-called : (c : After-ctx8)
-    → count_of c.ctx8.result
-    ≡ ctx8_handed (of (start c)) (start c).args.midstate.now (start c).args.bytes_hashed (start c).args.buffer.now (start c).args.res (start c).args.out.now
-called c =
-    let a = (start c).args in
-    c.ctx8.ensures.result_value
-    ∙ handed_call (of (start c)) a.midstate.now a.bytes_hashed a.buffer.now c.hash_state-state.result a.res a.out.now
-    c.hash_state-state.ensures
-
-pub tell_count-requires : goal.tell_count-requires
-tell_count-requires c =
-    search (crossing, ctx8_near, called c.before.before.before.before)
+pub tell_number-requires : goal.tell_number-requires
+tell_number-requires c =
+    let a = c.args in
+    near_of (λ n. n) _ _
+    (c.ctx8.ensures.result_value
+    ∙ handed_call c.new-table.result a.midstate.now a.bytes_hashed a.buffer.now c.hash_state-state.result a.res a.out.now c.hash_state-state.ensures)
+    (ctx8_near c.new-table.result a.midstate.now a.bytes_hashed a.buffer.now a.res a.out.now)
 
 pub returns : goal.returns
 returns c =
-    let d = c.before.before.before.before.before in
-    let a = (start d).args in record {
-      value = search (crossing, called d);
-      width_after = search (crossing, called d);
+    let a = c.args in
+    let e = c.ctx8.ensures.result_value
+    ∙ handed_call c.new-table.result a.midstate.now a.bytes_hashed a.buffer.now c.hash_state-state.result a.res a.out.now c.hash_state-state.ensures
+    ∙ ap (λ (t : Table). ctx8_handed t a.midstate.now a.bytes_hashed a.buffer.now a.res a.out.now) c.new-table.ensures in
+    record {
+      value = code_of (λ n. n) _ _ e _ c.tell_number.ensures.value;
+      width_after = stored_of (λ n. n) _ _ e (λ n. n) _ _ c.tell_number.ensures.value_after;
       out_after = c.ctx8.ensures.out_after
-          ∙ handed_out (of (start d)) a.midstate.now a.bytes_hashed a.buffer.now c.hash_state-state.result a.res a.out.now
-          c.hash_state-state.ensures;
+          ∙ handed_out c.new-table.result a.midstate.now a.bytes_hashed a.buffer.now c.hash_state-state.result a.res a.out.now c.hash_state-state.ensures
+          ∙ ap (λ (t : Table). ctx8_handed_out t a.midstate.now a.bytes_hashed a.buffer.now a.res a.out.now) c.new-table.ensures;
     }

@@ -1,12 +1,21 @@
 -- `exports::constructors::qv_left` meets its contract: what crosses is what the call says, and its place is near. Assumes nothing.
+use mathlib.Core.Path.{ap, ◌∙◌}
+use Rattle.meaning.specs.Ladder.{record_of}
+use Rattle.meaning.specs.RecordCalls.{left_call, left_out}
+use Rattle.meaning.specs.Tables.{Table}
 use Rattle.exports.proofs.Nears.{left_near}
-use Rattle.exports_answers.proofs.Crossing.{crossing}
+use Rattle.exports_answers.proofs.Crossing.{crossing, code_of, stored_of}
 use Rattle.exports.proofs.constructors.qv_left.Goals as goal
 
-pub tell_count-requires : goal.tell_count-requires
-tell_count-requires c =
+pub tell_number-requires : goal.tell_number-requires
+tell_number-requires c =
     search (crossing, left_near)
 
 pub returns : goal.returns
 returns c =
-    record { value = search crossing; width_after = search crossing; out_after = search crossing }
+    let e = c.left.ensures.result_value ∙ ap (λ (t : Table). left_call t (record_of c.args.bytes.now c.args.offset c.args.node) c.args.res c.args.out.now) c.new-table.ensures in
+    record {
+      value = code_of (λ n. n) _ _ e _ c.tell_number.ensures.value;
+      width_after = stored_of (λ n. n) _ _ e (λ n. n) _ _ c.tell_number.ensures.value_after;
+      out_after = c.left.ensures.out_after ∙ ap (λ (t : Table). left_out t (record_of c.args.bytes.now c.args.offset c.args.node) c.args.res c.args.out.now) c.new-table.ensures;
+    }

@@ -1,12 +1,21 @@
 -- `exports::joins::qv_word_from_bits` meets its contract: what crosses is what the call says, and its place is near. Assumes nothing.
+use mathlib.Core.Path.{ap, ◌∙◌}
+use Rattle.meaning.specs.Ladder.{stream_of}
+use Rattle.meaning.specs.Tables.{Table}
+use Rattle.meaning.specs.WordCalls.{word_read_call, word_read_out}
 use Rattle.exports.proofs.Nears.{word_read_near}
-use Rattle.exports_answers.proofs.Crossing.{crossing}
+use Rattle.exports_answers.proofs.Crossing.{crossing, code_of, stored_of}
 use Rattle.exports.proofs.joins.qv_word_from_bits.Goals as goal
 
-pub tell_count-requires : goal.tell_count-requires
-tell_count-requires c =
+pub tell_number-requires : goal.tell_number-requires
+tell_number-requires c =
     search (crossing, word_read_near)
 
 pub returns : goal.returns
 returns c =
-    record { value = search crossing; position_after = search crossing; out_after = search crossing }
+    let e = c.word_from_bits-answer.ensures.result_value ∙ ap (λ (t : Table). word_read_call t (stream_of c.args.bytes.now c.args.until c.args.position.now) c.args.n c.args.node c.args.out.now) c.new-table.ensures in
+    record {
+      value = code_of (λ n. n) _ _ e _ c.tell_number.ensures.value;
+      position_after = stored_of (λ n. n) _ _ e (λ n. n) _ _ c.tell_number.ensures.value_after;
+      out_after = c.word_from_bits-answer.ensures.out_after ∙ ap (λ (t : Table). word_read_out t (stream_of c.args.bytes.now c.args.until c.args.position.now) c.args.n c.args.node c.args.out.now) c.new-table.ensures;
+    }

@@ -1,12 +1,19 @@
 -- `exports::type_calls::qv_is_unit` meets its contract: what crosses is what the call says, and its place is near. Assumes nothing.
+use mathlib.Core.Path.{ap, ◌∙◌}
+use Rattle.meaning.specs.Tables.{Table, digit}
+use Rattle.meaning.specs.TypeCalls.{is_unit_call}
 use Rattle.exports.proofs.Nears.{is_unit_near}
-use Rattle.exports_answers.proofs.Crossing.{crossing}
+use Rattle.exports_answers.proofs.Crossing.{crossing, code_of, stored_of}
 use Rattle.exports.proofs.type_calls.qv_is_unit.Goals as goal
 
-pub tell_flag-requires : goal.tell_flag-requires
-tell_flag-requires c =
+pub tell_number-requires : goal.tell_number-requires
+tell_number-requires c =
     search (crossing, is_unit_near)
 
 pub returns : goal.returns
 returns c =
-    record { value = search crossing; answer_after = search crossing }
+    let e = c.is_unit.ensures ∙ ap (λ (t : Table). is_unit_call t c.args.node) c.new-table.ensures in
+    record {
+      value = code_of (λ b. b) _ _ e _ c.tell_number.ensures.value;
+      answer_after = stored_of (λ b. b) _ _ e digit _ _ c.tell_number.ensures.value_after;
+    }

@@ -3,8 +3,8 @@ use Rattle.exports.proofs.Nears.{word_width_near}
 use Rattle.exports_answers.proofs.Crossing.{crossing}
 use Rattle.exports.proofs.word_type_calls.qv_word_width.Goals as goal
 
-pub tell_count-requires : goal.tell_count-requires
-tell_count-requires c =
+pub tell_number-requires : goal.tell_number-requires
+tell_number-requires c =
     search (crossing, word_width_near)
 
 pub returns : goal.returns

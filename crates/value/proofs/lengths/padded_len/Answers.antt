@@ -1,63 +1,31 @@
--- `value::lengths::padded_len` meets its contract: rungs 1 to 5 by `checked_rungs`, then the width that the table tells. Assumes nothing.
-use mathlib.Core.Path.{◌≡◌, sym, ap, ◌∙◌}
-use mathlib.Core.List.{List, [], ◌∷◌}
+-- `value::lengths::padded_len` meets its contract: past the first rungs it answers the width of the record's type. Assumes nothing.
+use mathlib.Core.Path.{ap, ◌∙◌}
+use mathlib.Core.List.{[], ◌∷◌}
 use Rattle.meaning.specs.Types.{bits}
-use Rattle.meaning.specs.Tables.{Table, table}
-use Rattle.meaning.specs.Ladder.{accepted, Rung, ladder, Record, record_of, type_of}
+use Rattle.meaning.specs.Tables.{Table}
+use Rattle.meaning.specs.Ladder.{ladder, accepted, record_of, type_at}
 use Rattle.meaning.specs.RecordCalls.{handed}
-use Rattle.meaning.proofs.Ladders.{ladder_pass, ladder_stop}
-use Rattle.answers.specs.Verdicts.{done_of}
-use Rattle.checked.proofs.Passed.{handed_passed}
-use Rattle.value.proofs.lengths.padded_len.Lts as lts
-use Rattle.value.proofs.lengths.padded_len.Tie as tie
-use Rattle.value.proofs.lengths.padded_len.Reads as reads
+use Rattle.answers.proofs.Exits.{handed_on}
+use Rattle.checked.proofs.Handed.{checked_held, refused_first, then_own}
 use Rattle.value.proofs.lengths.padded_len.Goals as goal
 
--- The places of the code that the lemmas below speak of.
-abbrev Start : Type 0
-Start = lts.Start tie.the-claims reads.Pre reads.Post
-
-abbrev After-record : Type 0
-After-record = lts.After-record tie.the-claims reads.Pre reads.Post
-
-abbrev Past-After-enum_told : Type 0
-Past-After-enum_told = lts.Past-After-enum_told tie.the-claims reads.Pre reads.Post
-
--- The table that the columns and the groups make, and the record.
-abbrev of : Start → Table
-of s =
-    table s.args.kinds.now s.args.lefts.now s.args.rights.now s.args.groups.now s.args.count
-
-abbrev it : Start → Record
-it s = record_of s.args.bytes.now s.args.offset s.args.node
-
--- The entry of the function, from the place where its first rungs were asked, and from the place where they have let it pass.
-abbrev entry : After-record → Start
-entry c = c.before.before.before.before.before.before
-
-abbrev start : Past-After-enum_told → Start
-start c = entry c.before
-
--- Those rungs, and what they answered.
-abbrev rungs : Start → List Rung
-rungs s = handed (of s) (it s ∷ []) ([])
-
-passed : (c : Past-After-enum_told) → ladder (rungs (start c)) (tt {0}) ≡ accepted (tt {0})
-passed c = sym c.record-judged.ensures ∙ ap done_of c.in_default.is
-
-pub returns-in-Refused : goal.returns-in-Refused
-returns-in-Refused c =
-    let s = entry c.before.before in
-    sym (ladder_stop (rungs s) [] (tt {0}) (bits (type_of (of s) (it s))) c.in-Refused.r.number c.in-Refused.r.place
-    (sym c.record-judged.ensures ∙ ap done_of c.in-Refused.is))
+pub returns-in_err-checked : goal.returns-in_err-checked
+returns-in_err-checked c =
+    let a = c.args in
+    let r = record_of a.bytes.now a.offset a.node in
+    handed_on (λ n. n) _ _ c.from_residual.ensures.1 _
+    (refused_first (handed a.table.now (r ∷ []) []) [] (bits (type_at a.table.now a.node)) _ _ c.in_err-checked.ensures.answer)
 
 pub width_of-requires : goal.width_of-requires
 width_of-requires c =
-    let s = start c.before in (handed_passed (of s) (it s ∷ []) [] (passed c.before)).0.0.named
+    let a = c.args in
+    let r = record_of a.bytes.now a.offset a.node in
+    (checked_held a.table.now _ c.in_ok-checked.ensures.same (r ∷ []) [] c.in_ok-checked.ensures.answer).0.0.named
 
 pub returns : goal.returns
 unfolding ladder
 returns c =
-    let s = start c.before.before in
-    ap accepted c.width_of.ensures
-    ∙ sym (ladder_pass (rungs s) [] (tt {0}) (tt {0}) (bits (type_of (of s) (it s))) (passed c.before.before))
+    let a = c.args in
+    let r = record_of a.bytes.now a.offset a.node in
+    then_own (handed a.table.now (r ∷ []) []) [] (bits (type_at a.table.now a.node)) c.in_ok-checked.ensures.answer _
+    (ap accepted (c.width_of.ensures ∙ ap (λ (t : Table). bits (type_at t a.node)) c.in_ok-checked.ensures.same))

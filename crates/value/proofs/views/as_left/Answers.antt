@@ -1,63 +1,33 @@
 -- `value::views::as_left` meets its contract: rungs 1 to 5 by `checked_rungs`, the others by the inner function. Assumes nothing.
-use mathlib.Core.Path.{◌≡◌, sym, ap, ◌∙◌}
 use mathlib.Core.Bool.{false}
-use mathlib.Core.List.{List, [], ◌∷◌}
-use Rattle.meaning.specs.Tables.{Table, table}
-use Rattle.meaning.specs.Ladder.{accepted, Rung, ladder, Record, record_of}
+use mathlib.Core.List.{[], ◌∷◌}
+use Rattle.meaning.specs.Tables.{Table}
+use Rattle.meaning.specs.Ladder.{record_of}
 use Rattle.meaning.specs.RecordCalls.{handed}
-use Rattle.meaning.proofs.Ladders.{ladder_pass, ladder_stop}
-use Rattle.answers.specs.Verdicts.{done_of}
+use Rattle.answers.specs.Verdicts.{spot}
+use Rattle.answers.proofs.Exits.{handed_on}
+use Rattle.checked.proofs.Handed.{checked_held, refused_first}
 use Rattle.value_views.specs.Views.{payload_spot, payload_rungs}
-use Rattle.checked.proofs.Passed.{handed_passed}
-use Rattle.value.proofs.views.as_left.Lts as lts
-use Rattle.value.proofs.views.as_left.Tie as tie
-use Rattle.value.proofs.views.as_left.Reads as reads
+use Rattle.value.proofs.Answered.{viewed}
 use Rattle.value.proofs.views.as_left.Goals as goal
 
--- The places of the code that the lemmas below speak of.
-abbrev Start : Type 0
-Start = lts.Start tie.the-claims reads.Pre reads.Post
-
-abbrev After-record : Type 0
-After-record = lts.After-record tie.the-claims reads.Pre reads.Post
-
-abbrev Past-After-enum_told : Type 0
-Past-After-enum_told = lts.Past-After-enum_told tie.the-claims reads.Pre reads.Post
-
--- The table that the columns and the groups make, and the record.
-abbrev of : Start → Table
-of s =
-    table s.args.kinds.now s.args.lefts.now s.args.rights.now s.args.groups.now s.args.count
-
-abbrev it : Start → Record
-it s = record_of s.args.bytes.now s.args.offset s.args.node
-
--- The entry of the function, from the place where its first rungs were asked, and from the place where they have let it pass.
-abbrev entry : After-record → Start
-entry c = c.before.before.before.before.before.before
-
-abbrev start : Past-After-enum_told → Start
-start c = entry c.before
-
--- Those rungs, and what they answered.
-abbrev rungs : Start → List Rung
-rungs s = handed (of s) (it s ∷ []) ([])
-
-passed : (c : Past-After-enum_told) → ladder (rungs (start c)) (tt {0}) ≡ accepted (tt {0})
-passed c = sym c.record-judged.ensures ∙ ap done_of c.in_default.is
-
-pub returns-in-Refused : goal.returns-in-Refused
-returns-in-Refused c =
-    let s = entry c.before.before in
-    sym (ladder_stop (rungs s) (payload_rungs false (of s) (it s)) (tt {0}) (payload_spot false (of s) (it s)) c.in-Refused.r.number c.in-Refused.r.place
-    (sym c.record-judged.ensures ∙ ap done_of c.in-Refused.is))
+pub returns-in_err-checked : goal.returns-in_err-checked
+returns-in_err-checked c =
+    let t = c.args.table.now in
+    let r = record_of c.args.bytes.now c.args.offset c.args.node in
+    handed_on spot _ _ c.from_residual.ensures.1 _
+    (refused_first (handed t (r ∷ []) []) (payload_rungs false t r) (payload_spot false t r) _ _ c.in_err-checked.ensures.answer)
 
 pub payload-requires : goal.payload-requires
 payload-requires c =
-    let s = start c.before in (handed_passed (of s) (it s ∷ []) [] (passed c.before)).0.0
+    let r = record_of c.args.bytes.now c.args.offset c.args.node in
+    (checked_held c.args.table.now _ c.in_ok-checked.ensures.same (r ∷ []) [] c.in_ok-checked.ensures.answer).0.0
 
 pub returns : goal.returns
 returns c =
-    let s = start c.before.before in
+    let t = c.args.table.now in
+    let r = record_of c.args.bytes.now c.args.offset c.args.node in
+    viewed t _ c.in_ok-checked.ensures.same (handed t (r ∷ []) []) c.in_ok-checked.ensures.answer (λ (x : Table). payload_rungs false x r)
+    (λ (x : Table). payload_spot false x r)
+    _
     c.payload.ensures
-    ∙ sym (ladder_pass (rungs s) (payload_rungs false (of s) (it s)) (tt {0}) (tt {0}) (payload_spot false (of s) (it s)) (passed c.before.before))

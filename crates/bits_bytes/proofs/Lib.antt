@@ -1,0 +1,2 @@
+-- The laws of bytes that are filled.
+pub mod Filled

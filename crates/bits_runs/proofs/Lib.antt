@@ -1,0 +1,2 @@
+-- The laws of runs that are written.
+pub mod Written

@@ -1,0 +1,2 @@
+-- Lemmas of `lists`.
+mod Growth

@@ -1,0 +1,2 @@
+-- What the contracts of `view` cite beside the definitions of `meaning`.
+pub mod Views

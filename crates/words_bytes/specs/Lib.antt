@@ -1,0 +1,2 @@
+-- What the contracts of words of bytes cite beside the definitions of `meaning`.
+pub mod Chosen
