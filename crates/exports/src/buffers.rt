@@ -34,7 +34,8 @@ pub fn qv_buffer8_two_n_plus_one(
     )
 }
 
-// A struct that `ctx8` refuses with 6: it uses more bytes than it has.
+// A struct that `ctx8` refuses with 6: it uses more bytes than it has. No `None` in its place, since 6 comes after the rungs 1 to 5, which `ctx8`
+// asks.
 fn no_state() -> HashState
     ensures { result.used ≡ 64 }
 {

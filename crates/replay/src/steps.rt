@@ -9,7 +9,7 @@ use std::fmt;
 const TABLE: u8 = 255;
 
 // What a list has at a place: a case of a call, or a table, which counts as a case.
-#[derive(Clone, Copy, PartialEq, Eq, PartialOrd, Ord)]
+#[derive(Clone, Copy, PartialEq, Eq)]
 pub enum Entry {
     Call(Call),
     Table,

@@ -4,7 +4,7 @@
 use std::fmt;
 
 // Tables.
-#[derive(Clone, Copy, PartialEq, Eq, PartialOrd, Ord)]
+#[derive(Clone, Copy, PartialEq, Eq)]
 pub enum TablesCall {
     ReadTable,
     FillFacts,
@@ -22,7 +22,7 @@ impl fmt::Display for TablesCall {
 }
 
 // Questions about types.
-#[derive(Clone, Copy, PartialEq, Eq, PartialOrd, Ord)]
+#[derive(Clone, Copy, PartialEq, Eq)]
 pub enum TypesCall {
     FactsOf,
     SameType,
@@ -50,7 +50,7 @@ impl fmt::Display for TypesCall {
 }
 
 // Word types, buffer types and the hash state's type.
-#[derive(Clone, Copy, PartialEq, Eq, PartialOrd, Ord)]
+#[derive(Clone, Copy, PartialEq, Eq)]
 pub enum WordTypesCall {
     AsWord,
     WordWidth,
@@ -72,7 +72,7 @@ impl fmt::Display for WordTypesCall {
 }
 
 // Views of a record.
-#[derive(Clone, Copy, PartialEq, Eq, PartialOrd, Ord)]
+#[derive(Clone, Copy, PartialEq, Eq)]
 pub enum ViewsCall {
     AsLeft,
     AsRight,
@@ -90,7 +90,7 @@ impl fmt::Display for ViewsCall {
 }
 
 // Comparison.
-#[derive(Clone, Copy, PartialEq, Eq, PartialOrd, Ord)]
+#[derive(Clone, Copy, PartialEq, Eq)]
 pub enum ComparingCall {
     Equal,
     Compare,
@@ -106,7 +106,7 @@ impl fmt::Display for ComparingCall {
 }
 
 // Lengths.
-#[derive(Clone, Copy, PartialEq, Eq, PartialOrd, Ord)]
+#[derive(Clone, Copy, PartialEq, Eq)]
 pub enum LengthsCall {
     CompactLen,
     PaddedLen,
@@ -122,7 +122,7 @@ impl fmt::Display for LengthsCall {
 }
 
 // Constructors.
-#[derive(Clone, Copy, PartialEq, Eq, PartialOrd, Ord)]
+#[derive(Clone, Copy, PartialEq, Eq)]
 pub enum ConstructorsCall {
     Unit,
     Left,
@@ -148,7 +148,7 @@ impl fmt::Display for ConstructorsCall {
 }
 
 // Words.
-#[derive(Clone, Copy, PartialEq, Eq, PartialOrd, Ord)]
+#[derive(Clone, Copy, PartialEq, Eq)]
 pub enum WordsCall {
     U1,
     U2,
@@ -182,7 +182,7 @@ impl fmt::Display for WordsCall {
 }
 
 // Words joined and read.
-#[derive(Clone, Copy, PartialEq, Eq, PartialOrd, Ord)]
+#[derive(Clone, Copy, PartialEq, Eq)]
 pub enum JoinsCall {
     WordProduct,
     WordFromBits,
@@ -198,7 +198,7 @@ impl fmt::Display for JoinsCall {
 }
 
 // Buffers and the hash state.
-#[derive(Clone, Copy, PartialEq, Eq, PartialOrd, Ord)]
+#[derive(Clone, Copy, PartialEq, Eq)]
 pub enum BuffersCall {
     Buffer8TwoNPlusOne,
     Ctx8,
@@ -214,7 +214,7 @@ impl fmt::Display for BuffersCall {
 }
 
 // Codecs.
-#[derive(Clone, Copy, PartialEq, Eq, PartialOrd, Ord)]
+#[derive(Clone, Copy, PartialEq, Eq)]
 pub enum CodecsCall {
     FromCompactBits,
     FromPaddedBits,
@@ -234,7 +234,7 @@ impl fmt::Display for CodecsCall {
 }
 
 // The cut.
-#[derive(Clone, Copy, PartialEq, Eq, PartialOrd, Ord)]
+#[derive(Clone, Copy, PartialEq, Eq)]
 pub enum CutsCall {
     Prune,
 }
@@ -248,7 +248,7 @@ impl fmt::Display for CutsCall {
 }
 
 // A call.
-#[derive(Clone, Copy, PartialEq, Eq, PartialOrd, Ord)]
+#[derive(Clone, Copy, PartialEq, Eq)]
 pub enum Call {
     Tables(TablesCall),
     Types(TypesCall),

@@ -3,7 +3,7 @@
 use borrow.Author.Rules.{rules}
 use borrow.Author.Tests.{eq-eqb, ne_eqb, lt-leb}
 use mathlib.Core.Path.{refl}
-use lib.ListN.{length, replicate}
+use lib.ListN.{length}
 use Rattle.exports.proofs.States.{no_stand, stands, at_front}
 use Rattle.exports.proofs.buffers.hash_state.Goals as goal
 
