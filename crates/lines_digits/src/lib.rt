@@ -2,12 +2,26 @@
 // The parts are put one behind the other and no line is a `write!`, which says what was written only where it answers Ok, and never that it does.
 #![tactic(auto)]
 
-ghost use Rattle.std.specs.Prelude.{◌≡◌, [], ◌∷◌, ◌++◌, length};
+ghost use Rattle.std.specs.Prelude.{◌≡◌, ◌+◌, ◌≤◌, [], ◌∷◌, ◌++◌, length};
 ghost use Rattle.tables.specs.Kinds.{kind_no};
 ghost use Rattle.lines_digits.specs.Report.{ascii, decimal, kind_word};
-ghost use Rattle.lines_digits.specs.Buffer.{HasRoom, Wrote};
+ghost use Rattle.lines_digits.specs.Buffer.{PutAt, HasRoom, Wrote};
 
 use tables::Kind;
+
+// A number in decimal at an offset of a buffer, the leading digits first. Answers the offset after it.
+fn put_digits(out: &mut [u8], at: usize, n: u64) -> usize
+    requires { at + length (decimal n) ≤ length out.old }
+    ensures { PutAt out.old at (decimal n) out.new result }
+{
+    if n < 10 {
+        out[at] = 48 + n as u8;
+        return at + 1;
+    }
+    let last = put_digits(out, at, n / 10);
+    out[last] = 48 + (n % 10) as u8;
+    last + 1
+}
 
 // A lent buffer, and how much of it is written.
 #[derive(Drop)]
@@ -41,9 +55,9 @@ impl<'a> Text<'a> {
         requires { HasRoom self.old 21 }
         ensures { Wrote self.old (decimal n ++ (stop ∷ [])) self.new }
     {
-        let mut digits = itoa::Buffer::new();
-        self.word(digits.format(n).as_bytes());
-        self.word(&[stop]);
+        let end = put_digits(self.out, self.len, n);
+        self.out[end] = stop;
+        self.len = end + 1;
     }
 
     // The word of a kind, and a space.
