@@ -2,7 +2,6 @@
 #![tactic(auto)]
 
 ghost use Rattle.std.specs.Prelude.{◌≤◌, length};
-ghost use Rattle.tables.specs.Kinds.{kind_no};
 ghost use Rattle.lines_digits.specs.Report.{head_line, node_line, refusal_line, groups_text};
 ghost use Rattle.lines_digits.specs.Buffer.{HasRoom, Wrote, Printed};
 ghost use Rattle.lines.specs.Room.{head_room, line_room, Reportable};
@@ -20,11 +19,11 @@ pub const LINE_BYTES: usize = 117;
 #[derive(Clone, Copy)]
 pub struct Row {
     pub node: usize,
-    pub kind: Kind,
+    pub kind: u8,
     pub width: u64,
     pub size: u64,
     pub padded: u8,
-    pub class: u16,
+    pub class: usize,
     pub least: u64,
 }
 
@@ -37,20 +36,20 @@ pub fn head_line(text: &mut Text<'_>, count: usize)
     text.number(count as u64, b'\n');
 }
 
-// The line of a node.
+// The line of a node, of any kind and class: a kind above 2 is told as a product, as `kind_word` has it.
 #[tactic(auto, using(lines_digits::proofs::Decimals::rooms))]
 pub fn node_line(text: &mut Text<'_>, row: Row)
     requires { HasRoom text.old line_room }
     ensures { Wrote text.old
-        (node_line row.node (kind_no row.kind) row.width row.size row.padded row.class row.least)
+        (node_line row.node row.kind row.width row.size row.padded row.class row.least)
         text.new }
 {
     text.number(row.node as u64, b' ');
-    text.kind(row.kind);
+    text.kind(Kind::try_from(row.kind).unwrap_or(Kind::Product));
     text.number(row.width, b' ');
     text.number(row.size, b' ');
     text.number(u64::from(row.padded), b' ');
-    text.number(u64::from(row.class), b' ');
+    text.number(row.class as u64, b' ');
     text.number(row.least, b'\n');
 }
 
@@ -80,11 +79,11 @@ pub fn report(out: &mut [u8], kinds: &[u8], groups: &[u8], count: usize) -> usiz
     for node in 0..count {
         let row = Row {
             node,
-            kind: Kind::try_from(kinds[node]).unwrap_or(Kind::Product),
+            kind: kinds[node],
             width: groups::width_at(groups, node),
             size: groups::size_at(groups, node),
             padded: groups::padded_at(groups, node),
-            class: groups::class_at(groups, node),
+            class: usize::from(groups::class_at(groups, node)),
             least: groups::least_at(groups, node),
         };
         node_line(&mut text, row);
