@@ -1,6 +1,7 @@
 -- What a sound table says of a node, by its columns and groups.
 --
 --   a_kind                      the byte of its kind is read
+--   kind_read                   and what is read of it is its kind, whatever stands for another byte
 --   has_group                   it has a group
 --   read_from                   what is read of it is what a walker needs
 -- Assumes nothing.
@@ -11,6 +12,7 @@ use mathlib.Core.List.{List}
 use lib.Dec.{eqb}
 use lib.ListN.{length, get_or}
 use Rattle.std.specs.Prelude.{Result, Ok, Err, IsOk}
+use Rattle.std.specs.Result.{result_unwrap_or}
 use Rattle.meaning.specs.Groups.{group_size}
 use Rattle.meaning.specs.Tables.{Table, table, facts_in, kind, left, right, ty_at, node as tree}
 use Rattle.meaning.specs.Checked.{Sound}
@@ -61,3 +63,7 @@ module _ (ks ls rs gs : List ℕ) (count n : ℕ) (s : Sound (table ks ls rs gs 
 
 pub the_kind : (m : ℕ) (r : Result Kind UnknownKind) (k : Kind) → Decodes m r → r ≡ Ok k → kind_no k ≡ m
 the_kind m r k d e = subst (Decodes m) e d
+
+pub kind_read : (t : Table) → Sound t → (n : ℕ) → n < t.count → (r : Result Kind UnknownKind) (other k : Kind) → Decodes (kind t.columns n) r → k ≡ result_unwrap_or r other → kind_no k ≡ kind t.columns n
+kind_read t s n h (Ok j) other k d e = ap kind_no e ∙ d
+kind_read t s n h (Err x) other k d e = let low = sound_kind t s n h in absurd (omega arith)

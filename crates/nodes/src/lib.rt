@@ -79,7 +79,7 @@ impl<'a> Checked<'a> {
         groups::size_at(groups, n)
     }
 
-    // A node of the table.
+    // A node of the table. No sound table has a kind above 2: the last kind stands for it, so that no test of it is left at run time.
     pub fn node(&self, n: usize) -> Node
         requires { n < self.now.count }
         ensures { Reads self.now n result }
@@ -88,7 +88,7 @@ impl<'a> Checked<'a> {
         let left = self.lefts[n] as usize;
         let right = self.rights[n] as usize;
         Node {
-            kind: Kind::try_from(kinds[n]).unwrap(),
+            kind: Kind::try_from(kinds[n]).unwrap_or(Kind::Product),
             left,
             right,
             width: groups::width_at(self.groups, n),

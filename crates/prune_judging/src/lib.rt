@@ -26,8 +26,12 @@ pub fn fits(table: &Checked<'_>, src: &[u8], at: usize, given: usize, target: us
     if target_class == given_class {
         return true;
     }
+    // A test of its own, and no arm below: so the compiler makes one branch of it and of the classes, and which of the two holds, which hangs on the
+    // tags, costs no wrong guess.
+    if let Kind::Unit = target_node.kind {
+        return true;
+    }
     match (target_node.kind, given_node.kind) {
-        (Kind::Unit, _) => true,
         (Kind::Sum, Kind::Sum) => {
             let side = prune_sides::taken_side(src, at, given_node, target_node);
             fits(

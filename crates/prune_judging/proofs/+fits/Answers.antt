@@ -16,24 +16,24 @@ returns-then-target_class-given_class t c =
     sym (ap is_cut (step_equal s c.if-target_class-given_class.true))
 
 -- Unit.
-pub returns-in-Unit-default : goal.returns-in-Unit-default
-returns-in-Unit-default t c =
+pub returns-in-Unit : goal.returns-in-Unit
+returns-in-Unit t c =
     let r = c.requires in
     let s = step_of r.named r.named_2 r.run c.node-given_node.ensures c.node-target_node.ensures in
-    sym (ap is_cut (step_unit s c.in-Unit-default.is-0))
+    sym (ap is_cut (step_unit s c.in-Unit.is))
 
 -- Another kind.
-pub returns-in_default : goal.returns-in_default
-returns-in_default t c =
-    let r = c.requires in
-    let s = step_of r.named r.named_2 r.run c.node-given_node.ensures c.node-target_node.ensures in
-    sym (ap is_cut (step_unlike s c.in_default.is-0 (omega arith) c.in_default.not-Sum-1))
-
 pub returns-in_default-2 : goal.returns-in_default-2
 returns-in_default-2 t c =
     let r = c.requires in
     let s = step_of r.named r.named_2 r.run c.node-given_node.ensures c.node-target_node.ensures in
-    sym (ap is_cut (step_unlike s c.in_default.is-0 (omega arith) c.in_default.not-Product-1))
+    sym (ap is_cut (step_unlike s c.in_default-2.is-0 (omega arith) c.in_default-2.not-Sum-1))
+
+pub returns-in_default-2-2 : goal.returns-in_default-2-2
+returns-in_default-2-2 t c =
+    let r = c.requires in
+    let s = step_of r.named r.named_2 r.run c.node-given_node.ensures c.node-target_node.ensures in
+    sym (ap is_cut (step_unlike s c.in_default-2.is-0 (omega arith) c.in_default-2.not-Product-1))
 
 -- At a sum.
 pub taken_side-side-requires : goal.taken_side-side-requires
