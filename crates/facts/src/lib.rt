@@ -83,7 +83,7 @@ pub fn fill(columns: &Columns<'_>, count: usize, groups: &mut [u8])
     let mut chains = Chains::new();
     for n in 0..count {
         let found = facts_at(columns, groups, &chains, n);
-        groups::put_facts(groups, n, found.facts);
+        groups::put_group(groups, n, found.facts);
         chains.add(found.slot, found.facts.class as usize, n);
     }
 }

@@ -85,16 +85,42 @@ pub fn facts_at(groups: &[u8], n: usize) -> Facts
     }
 }
 
-// Lays the facts of a node into its group.
-pub fn put_facts(groups: &mut [u8], n: usize, facts: Facts)
+// Lays the facts of a node into its group. The padded byte may be anything, and is laid as it is.
+pub fn put_facts(
+    groups: &mut [u8],
+    n: usize,
+    width: u64,
+    size: u64,
+    padded: u8,
+    class: u16,
+    least: u64,
+)
+    requires { group_size * (n + 1) ≤ length groups.old }
+    ensures { groups.new ≡ paste groups.old (group_size * n)
+        (group width size padded class least) group_size }
+{
+    let at = GROUP_BYTES * n;
+    groups[at..at + 8].copy_from_slice(&width.to_le_bytes());
+    groups[at + 8..at + 16].copy_from_slice(&size.to_le_bytes());
+    groups[at + 16] = padded;
+    groups[at + 17..at + 19].copy_from_slice(&class.to_le_bytes());
+    groups[at + 19..at + 27].copy_from_slice(&least.to_le_bytes());
+}
+
+// The same of facts as one value: a yes or no is 1 or 0.
+pub fn put_group(groups: &mut [u8], n: usize, facts: Facts)
     requires { group_size * (n + 1) ≤ length groups.old }
     ensures { groups.new ≡ paste groups.old (group_size * n)
         (group facts.width facts.size (digit facts.padded) facts.class facts.least) group_size }
 {
-    let at = GROUP_BYTES * n;
-    groups[at..at + 8].copy_from_slice(&facts.width.to_le_bytes());
-    groups[at + 8..at + 16].copy_from_slice(&facts.size.to_le_bytes());
-    groups[at + 16] = u8::from(facts.padded);
-    groups[at + 17..at + 19].copy_from_slice(&facts.class.to_le_bytes());
-    groups[at + 19..at + 27].copy_from_slice(&facts.least.to_le_bytes());
+    let padded = u8::from(facts.padded);
+    put_facts(
+        groups,
+        n,
+        facts.width,
+        facts.size,
+        padded,
+        facts.class,
+        facts.least,
+    );
 }

@@ -27,6 +27,6 @@ add-requires c =
 
 pub loop-n-preserved : goal.loop-n-preserved
 loop-n-preserved c = (
-  filled_more _ _ _ _ c.loop-n.invariant.0 _ _ c.facts_at-found.ensures.facts_are c.put_facts.ensures,
+  filled_more _ _ _ _ c.loop-n.invariant.0 _ _ c.facts_at-found.ensures.facts_are c.put_group.ensures,
   c.add.ensures c.args.columns.now c.loop-n.invariant.1 c.facts_at-found.ensures.facts_are.class_is c.facts_at-found.ensures.slot_is,
 )
