@@ -11,6 +11,40 @@ ghost use Rattle.facts_sides.specs.FactsOf.{FactsOf};
 use groups::Facts;
 use tables::Kind;
 
+// The width of a sum or a product, by the widths of its sides.
+pub fn width_by(kind: u8, a: u64, b: u64) -> u64
+    ensures { result ≡ width_by kind a b }
+{
+    if kind == 1 {
+        return 1u64.saturating_add(a.max(b));
+    }
+    a.saturating_add(b) // both widths
+}
+
+// The size of a sum or a product, by the sizes of its sides.
+pub fn size_by(a: u64, b: u64) -> u64
+    ensures { result ≡ size_by a b }
+{
+    1u64.saturating_add(a.saturating_add(b))
+}
+
+// The padded byte of a sum or a product, by the padded bytes and the widths of its sides.
+pub fn padded_by(kind: u8, p: u8, q: u8, a: u64, b: u64) -> u8
+    ensures { result ≡ padded_by kind p q a b }
+{
+    u8::from(p != 0 || q != 0 || kind == 1 && a != b)
+}
+
+// The least compact length of a sum or a product, by those of its sides.
+pub fn least_by(kind: u8, a: u64, b: u64) -> u64
+    ensures { result ≡ least_by kind a b }
+{
+    if kind == 1 {
+        return 1u64.saturating_add(a.min(b));
+    }
+    a.saturating_add(b) // both lengths
+}
+
 // The facts of a sum or a product with a class, by those of its sides.
 pub fn facts_by(kind: Kind, class: u16, x: Facts, y: Facts) -> Facts
     ensures width { result.width ≡ width_by (kind_no kind) x.width y.width }
@@ -19,22 +53,14 @@ pub fn facts_by(kind: Kind, class: u16, x: Facts, y: Facts) -> Facts
     ensures class { result.class ≡ class }
     ensures least { result.least ≡ least_by (kind_no kind) x.least y.least }
 {
-    let size = 1u64.saturating_add(x.size.saturating_add(y.size));
-    match kind {
-        Kind::Sum => Facts {
-            width: 1u64.saturating_add(x.width.max(y.width)),
-            size,
-            padded: x.padded || y.padded || x.width != y.width,
-            class,
-            least: 1u64.saturating_add(x.least.min(y.least)),
-        },
-        _ => Facts {
-            width: x.width.saturating_add(y.width),
-            size,
-            padded: x.padded || y.padded,
-            class,
-            least: x.least.saturating_add(y.least),
-        },
+    let number = kind as u8;
+    let (p, q) = (u8::from(x.padded), u8::from(y.padded));
+    Facts {
+        width: width_by(number, x.width, y.width),
+        size: size_by(x.size, y.size),
+        padded: padded_by(number, p, q, x.width, y.width) != 0,
+        class,
+        least: least_by(number, x.least, y.least),
     }
 }
 
