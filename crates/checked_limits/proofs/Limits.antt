@@ -4,22 +4,29 @@
 --   first_any first_six         a number below 6 does not depend on the bounds; 6 tells that 2 to 4 fail
 --   same_test                   two comparisons that agree
 --   wide_bits                   a 64-bit width is above the limit exactly if the true one is
---   too_wide too_large small    how the facts of a node decide, by its width and its size
---   stopped passed              what a node's answer says of a record of it
+--   passed                      what is known of a node that is accepted, by its width and its size
 --   runs_past inside            how the bounds decide then
+--   reached                     what asking takes of a sound table: groups that reach the count
+--   true_node true_record       the numbers as they are asked, by the groups of a sound table, are those of the types
 --   earlier_first               the least number is the earlier refusal
 -- Assumes nothing.
-use Prim.Native.Nat.{ℕ, ◌+◌, ◌*◌, ◌<◌, ◌≤◌, min}
+use Prim.Native.Nat.{ℕ, ◌+◌, ◌*◌, ◌-◌, ◌<◌, ◌≤◌, min}
 use native.Mathlib.Omega.{arith}
-use mathlib.Core.Path.{◌≡◌, refl, sym, ap, ◌∙◌}
+use mathlib.Core.Path.{◌≡◌, refl, sym, ap, ap₂, ◌∙◌}
 use mathlib.Core.Logic.{⊎_elim}
 use mathlib.Core.Bool.{Bool, true, false, true≢false, false≢true}
+use mathlib.Core.List.{List}
 use lib.Dec.{ltb, leb}
-use borrow.Author.Tests.{lt-ltb, le-ltb, ltb-true, ltb-false, le-leb, lt-leb, leb-false}
+use lib.ListN.{length, get_or}
+use borrow.Author.Tests.{lt-ltb, le-ltb, ltb-true, ltb-false, leb-false}
 use Rattle.meaning.specs.Types.{Ty, bits, width, size}
-use Rattle.meaning.specs.Tables.{Table}
-use Rattle.meaning.specs.Ladder.{refused, accepted, type_at}
+use Rattle.meaning.specs.Groups.{group_size}
+use Rattle.meaning.specs.Tables.{Table, table}
+use Rattle.meaning.specs.Ladder.{Answer, refused, accepted, type_at}
+use Rattle.meaning.specs.Checked.{Sound}
 use Rattle.meaning.proofs.Types.{width_bits}
+use Rattle.meaning.proofs.Sounds.{sound_width, sound_size}
+use Rattle.meaning.proofs.GroupLaws.{sound_group}
 use Rattle.meaning.proofs.Ladders.{accepted_refused}
 use Rattle.meaning.proofs.Choices.{either}
 use Rattle.checked_limits.specs.Limits.{first_rung, limit_answer, node_limit, bounded_limit, earlier}
@@ -80,44 +87,20 @@ same_test a b c d f g = ⊎_elim above below (either (ltb a b))
 pub wide_bits : (x : Ty) → ltb 524288 (width x) ≡ ltb 524288 (bits x)
 wide_bits x = let e = width_bits x in same_test 524288 (width x) 524288 (bits x) (λ h. omega arith) (λ h. omega arith)
 
--- A width that is read, below the limit, is the true one.
-pub true_width : (x : Ty) (w : ℕ) → w ≡ width x → ltb 524288 (bits x) ≡ false → w ≡ bits x
-true_width x w e h = let l = ltb-false 524288 (bits x) h in omega (arith, width_bits x, e)
-
-module _ (t : Table) (n : ℕ) where
+-- By the width and the size that are read of a node.
+module _ (count n w z : ℕ) where
   abbrev missing : Bool
-  missing = leb t.count n
+  missing = leb count n
 
   abbrev wide : Bool
-  wide = ltb 524288 (bits (type_at t n))
+  wide = ltb 524288 w
 
   abbrev large : Bool
-  large = ltb 2097152 (size (type_at t n))
+  large = ltb 2097152 z
 
-  -- The width that is read is above the limit exactly if the true one is.
-  is_wide : (w : ℕ) → w ≡ width (type_at t n) → ltb 524288 w ≡ wide
-  is_wide w e = ap (ltb 524288) e ∙ wide_bits (type_at t n)
-
-  pub no_node : t.count ≤ n → refused 2 0 ≡ limit_answer (node_limit t n)
-  no_node h = ap limit_answer (first_two missing wide large false (le-leb t.count n h))
-
-  pub too_wide : n < t.count → (w : ℕ) → w ≡ width (type_at t n) → 524288 < w → refused 3 0 ≡ limit_answer (node_limit t n)
-  too_wide h w e l =
-      ap limit_answer (first_three missing wide large false (lt-leb t.count n h) (sym (is_wide w e) ∙ lt-ltb 524288 w l))
-
-  pub too_large : n < t.count → (w : ℕ) → w ≡ width (type_at t n) → w ≤ 524288 → (z : ℕ) → z ≡ size (type_at t n) → 2097152 < z
-      → refused 4 0 ≡ limit_answer (node_limit t n)
-  too_large h w e l z f g =
-      ap limit_answer
-      (first_four missing wide large false (lt-leb t.count n h) (sym (is_wide w e) ∙ le-ltb 524288 w l)
-      (sym (ap (ltb 2097152) f) ∙ lt-ltb 2097152 z g))
-
-  pub small : n < t.count → (w : ℕ) → w ≡ width (type_at t n) → w ≤ 524288 → (z : ℕ) → z ≡ size (type_at t n) → z ≤ 2097152
-      → accepted (tt {0}) ≡ limit_answer (node_limit t n)
-  small h w e l z f g =
-      ap limit_answer
-      (first_none missing wide large false (lt-leb t.count n h) (sym (is_wide w e) ∙ le-ltb 524288 w l)
-      (sym (ap (ltb 2097152) f) ∙ le-ltb 2097152 z g) refl)
+  -- What a node that is named as a record type is answered.
+  abbrev named : Answer (Unit {0})
+  named = limit_answer (first_rung missing wide large false)
 
   -- None of 2 to 4 refuses a node that is accepted.
   clear : (m w l : Bool) → accepted (tt {0}) ≡ limit_answer (first_rung m w l false) → (m ≡ false) × (w ≡ false) × (l ≡ false)
@@ -126,42 +109,76 @@ module _ (t : Table) (n : ℕ) where
   clear false false true e = absurd (accepted_refused (tt {0}) 4 0 e)
   clear false false false e = (refl, refl, refl)
 
-  pub passed : accepted (tt {0}) ≡ limit_answer (node_limit t n) → (missing ≡ false) × (wide ≡ false) × (large ≡ false)
+  pub passed : accepted (tt {0}) ≡ named → (missing ≡ false) × (wide ≡ false) × (large ≡ false)
   passed e = clear missing wide large e
 
-  pub passed_here : accepted (tt {0}) ≡ limit_answer (node_limit t n) → n < t.count
-  passed_here e = leb-false t.count n (passed e).0
+  pub passed_here : accepted (tt {0}) ≡ named → n < count
+  passed_here e = leb-false count n (passed e).0
 
-  pub passed_narrow : accepted (tt {0}) ≡ limit_answer (node_limit t n) → (w : ℕ) → w ≡ width (type_at t n) → w ≤ 524288
-  passed_narrow e w h = ltb-false 524288 w (is_wide w h ∙ (passed e).1)
-
-  -- A refusal of the node is one of a record of it.
-  same_refused : (m w l p : Bool) (k q : ℕ) → refused k q ≡ limit_answer (first_rung m w l false) → refused k q ≡ limit_answer (first_rung m w l p)
-  same_refused true w l p k q e = e
-  same_refused false true l p k q e = e
-  same_refused false false true p k q e = e
-  same_refused false false false p k q e = absurd (accepted_refused (tt {0}) k q (sym e))
+  pub passed_narrow : accepted (tt {0}) ≡ named → w ≤ 524288
+  passed_narrow e = ltb-false 524288 w (passed e).1
 
   module _ (len offset : ℕ) where
     abbrev beyond : Bool
-    beyond = ltb (8 * len) (offset + bits (type_at t n))
+    beyond = ltb (8 * len) (offset + w)
 
-    pub stopped : (k q : ℕ) → refused k q ≡ limit_answer (node_limit t n) → refused k q ≡ limit_answer (bounded_limit t len offset n)
-    stopped k q e = same_refused missing wide large beyond k q e
+    -- What a record of it is answered.
+    abbrev recorded : Answer (Unit {0})
+    recorded = limit_answer (first_rung missing wide large beyond)
 
-    -- Whether the record runs past its bytes, as it was asked.
-    asked : accepted (tt {0}) ≡ limit_answer (node_limit t n) → (w : ℕ) → w ≡ width (type_at t n) → (b : Bool) → b ≡ ltb (8 * len) (offset + w) → b ≡ beyond
-    asked e w h b f = f ∙ ap (λ (k : ℕ). ltb (8 * len) (offset + k)) (true_width (type_at t n) w h (passed e).1)
+    pub runs_past : accepted (tt {0}) ≡ named → true ≡ beyond → refused 5 0 ≡ recorded
+    runs_past e f =
+        let p = passed e in ap limit_answer (first_five missing wide large beyond p.0 p.1 p.2 (sym f))
 
-    pub runs_past : accepted (tt {0}) ≡ limit_answer (node_limit t n) → (w : ℕ) → w ≡ width (type_at t n) → true ≡ ltb (8 * len) (offset + w)
-        → refused 5 0 ≡ limit_answer (bounded_limit t len offset n)
-    runs_past e w h f =
-        let p = passed e in ap limit_answer (first_five missing wide large beyond p.0 p.1 p.2 (sym (asked e w h true f)))
+    pub inside : accepted (tt {0}) ≡ named → false ≡ beyond → accepted (tt {0}) ≡ recorded
+    inside e f =
+        let p = passed e in ap limit_answer (first_none missing wide large beyond p.0 p.1 p.2 (sym f))
 
-    pub inside : accepted (tt {0}) ≡ limit_answer (node_limit t n) → (w : ℕ) → w ≡ width (type_at t n) → false ≡ ltb (8 * len) (offset + w)
-        → accepted (tt {0}) ≡ limit_answer (bounded_limit t len offset n)
-    inside e w h f =
-        let p = passed e in ap limit_answer (first_none missing wide large beyond p.0 p.1 p.2 (sym (asked e w h false f)))
+-- The width and the size that a group tells decide as the true ones do; the bounds matter to a narrow type alone.
+same_first : (m w l p w' l' p' : Bool) → (m ≡ false → (w ≡ w') × (l ≡ l') × (w' ≡ false → p ≡ p')) → first_rung m w l p ≡ first_rung m w' l' p'
+same_first true w l p w' l' p' h = refl
+same_first false w l p w' l' p' h = let f = h refl in ap₂ (λ (x y : Bool). first_rung false x y p) f.0 f.1 ∙ last w' l' f.2
+  where
+    last : (x y : Bool) → (x ≡ false → p ≡ p') → first_rung false x y p ≡ first_rung false x y p'
+    last true y e = refl
+    last false true e = refl
+    last false false e = ap (λ (z : Bool). first_rung false false false z) (e refl)
+
+pub reached : (ks ls rs gs : List ℕ) (n : ℕ) → Sound (table ks ls rs gs n) → (n ≤ 1024) × (group_size * n ≤ length gs)
+reached ks ls rs gs n s =
+    let some = s.some_node in
+    let g = sound_group ks ls rs gs n (n - 1) s (omega arith) in
+    (s.few_nodes, omega arith)
+
+module _ (t : Table) (s : Sound t) where
+  module _ (n : ℕ) (h : leb t.count n ≡ false) where
+    wide_is : ltb 524288 (get_or t.facts.widths n 0) ≡ ltb 524288 (bits (type_at t n))
+    wide_is = ap (ltb 524288) (sound_width t s n (leb-false t.count n h)) ∙ wide_bits (type_at t n)
+
+    large_is : ltb 2097152 (get_or t.facts.sizes n 0) ≡ ltb 2097152 (size (type_at t n))
+    large_is = ap (ltb 2097152) (sound_size t s n (leb-false t.count n h))
+
+    width_is : ltb 524288 (bits (type_at t n)) ≡ false → get_or t.facts.widths n 0 ≡ bits (type_at t n)
+    width_is e =
+        let l = ltb-false 524288 (bits (type_at t n)) e in
+        omega (arith, sound_width t s n (leb-false t.count n h), width_bits (type_at t n))
+
+  pub true_node : (n : ℕ)
+      → first_rung (leb t.count n) (ltb 524288 (get_or t.facts.widths n 0)) (ltb 2097152 (get_or t.facts.sizes n 0)) false ≡ node_limit t n
+  true_node n =
+      same_first (leb t.count n) (ltb 524288 (get_or t.facts.widths n 0)) (ltb 2097152 (get_or t.facts.sizes n 0)) false
+      (ltb 524288 (bits (type_at t n))) (ltb 2097152 (size (type_at t n))) false
+      (λ h. (wide_is n h, large_is n h, λ e. refl))
+
+  pub true_record : (len offset n : ℕ)
+      → first_rung (leb t.count n) (ltb 524288 (get_or t.facts.widths n 0)) (ltb 2097152 (get_or t.facts.sizes n 0))
+      (ltb (8 * len) (offset + get_or t.facts.widths n 0))
+      ≡ bounded_limit t len offset n
+  true_record len offset n =
+      same_first (leb t.count n) (ltb 524288 (get_or t.facts.widths n 0)) (ltb 2097152 (get_or t.facts.sizes n 0))
+      (ltb (8 * len) (offset + get_or t.facts.widths n 0))
+      (ltb 524288 (bits (type_at t n))) (ltb 2097152 (size (type_at t n))) (ltb (8 * len) (offset + bits (type_at t n)))
+      (λ h. (wide_is n h, large_is n h, λ e. ap (λ (k : ℕ). ltb (8 * len) (offset + k)) (width_is n h e)))
 
 pub earlier_first : (m w l p m' w' l' p' : Bool)
     → limit_answer (min (first_rung m w l p) (first_rung m' w' l' p')) ≡ earlier (limit_answer (first_rung m w l p)) (limit_answer (first_rung m' w' l' p'))

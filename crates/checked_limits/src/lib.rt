@@ -1,13 +1,16 @@
-// The rungs 2 to 5 of one record or one node, for `checked_rungs`. Inner: the table has been checked.
+// The rungs 2 to 5 of one record or one node, for `checked_rungs`: by what groups hold, whatever that is, and (`sound`) of a table that has been
+// checked. Inner: the count is at most 1,024, and the groups reach it.
 #![tactic(auto)]
 
-ghost use Rattle.std.specs.Prelude.{◌≡◌, ◌+◌, ◌*◌, ◌≤◌, ltb};
+pub mod sound;
+
+ghost use Rattle.std.specs.Prelude.{◌≡◌, false, ◌+◌, ◌*◌, ◌≤◌, length, get_or, ltb, leb};
+ghost use Rattle.meaning.specs.Groups.{group_size, fact_in};
 ghost use Rattle.answers.specs.Verdicts.{done_of};
 ghost use Rattle.checked_limits.specs.Limits as limits;
-ghost use Rattle.checked_limits.specs.Limits.{limit_answer};
+ghost use Rattle.checked_limits.specs.Limits.{first_rung, limit_answer};
 
 use answers::Refusal;
-use nodes::Checked;
 
 // The widest record type, and the largest, that a call takes.
 const WIDEST: u64 = 524288;
@@ -15,16 +18,18 @@ const WIDEST: u64 = 524288;
 const LARGEST: u64 = 2097152;
 
 // 2, 3 or 4, of a node that is named as a record type.
-pub fn node_limit(table: &Checked<'_>, n: usize) -> Result<(), Refusal>
-    ensures { done_of result ≡ limit_answer (limits.node_limit table.now n) }
+pub fn node_limit(groups: &[u8], count: usize, n: usize) -> Result<(), Refusal>
+    requires count_bound { count ≤ 1024 }
+    requires count_in_bounds { group_size * count ≤ length groups.now }
+    ensures { done_of result ≡ limit_answer (first_rung (leb count n) (ltb 524288 (get_or (fact_in 0 8 groups.now) n 0)) (ltb 2097152 (get_or (fact_in 8 8 groups.now) n 0)) false) }
 {
-    if table.count <= n {
+    if count <= n {
         return Err(Refusal::NoSuchNode);
     }
-    if WIDEST < table.width(n) {
+    if WIDEST < groups::width_at(groups, n) {
         return Err(Refusal::TooWide);
     }
-    if LARGEST < table.size(n) {
+    if LARGEST < groups::size_at(groups, n) {
         return Err(Refusal::TooLarge);
     }
     Ok(())
@@ -47,11 +52,19 @@ pub fn past(len: usize, offset: usize, width: u64) -> bool
 }
 
 // 2 to 5, of a record that begins at an offset of so many bytes.
-pub fn record_limit(table: &Checked<'_>, len: usize, offset: usize, n: usize) -> Result<(), Refusal>
-    ensures { done_of result ≡ limit_answer (limits.bounded_limit table.now len offset n) }
+pub fn record_limit(
+    groups: &[u8],
+    count: usize,
+    len: usize,
+    offset: usize,
+    n: usize,
+) -> Result<(), Refusal>
+    requires count_bound { count ≤ 1024 }
+    requires count_in_bounds { group_size * count ≤ length groups.now }
+    ensures { done_of result ≡ limit_answer (first_rung (leb count n) (ltb 524288 (get_or (fact_in 0 8 groups.now) n 0)) (ltb 2097152 (get_or (fact_in 8 8 groups.now) n 0)) (ltb (8 * len) (offset + get_or (fact_in 0 8 groups.now) n 0))) }
 {
-    node_limit(table, n)?;
-    if past(len, offset, table.width(n)) {
+    node_limit(groups, count, n)?;
+    if past(len, offset, groups::width_at(groups, n)) {
         return Err(Refusal::OutOfBytes);
     }
     Ok(())

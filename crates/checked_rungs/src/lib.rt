@@ -11,7 +11,8 @@ ghost use Rattle.meaning.specs.CodecCalls.{read_rungs};
 ghost use Rattle.answers.specs.Verdicts.{done_of};
 
 use answers::Refusal;
-use checked_limits::{earlier, node_limit, past, record_limit};
+use checked_limits::sound::{node_limit, record_limit};
+use checked_limits::{earlier, past};
 use checked_table::sound;
 use nodes::Checked;
 use tables::Table;
