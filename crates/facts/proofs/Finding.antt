@@ -1,6 +1,7 @@
 -- What a node's facts are found from.
 --
 --   ready_right                 the entries up to a node
+--   head_within                 the head of a slot
 --   no_other_kind               its kind is a unit's, a sum's or a product's
 --   left_reach right_reach      its sides have groups
 --   classing                    finding the class of a node
@@ -8,9 +9,10 @@
 --   class_fits                  a class is a number of 16 bits
 --   more_reach                  a smaller count
 -- Assumes nothing.
-use Rattle.std.proofs.Common.{ℕ, ◌≡◌, ◌+◌, ◌*◌, ◌<◌, ◌≤◌, List, true, false, length, refl, ap, sym, ◌∙◌, arith, nat_eq}
+use Rattle.std.proofs.Common.{ℕ, ◌≡◌, ◌+◌, ◌*◌, ◌<◌, ◌≤◌, List, true, false, length, get_or, refl, ap, sym, ◌∙◌, arith, nat_eq}
 use denote.Enum.Bare.{sameb}
 use mathlib.Core.Bool.{true≢false, false≢true}
+use mathlib.Core.Logic.{⊎_elim}
 use borrow.Author.Tests.{eqb-true}
 use Rattle.meaning.specs.Types.{width, size, padded, least_length}
 use Rattle.meaning.specs.Groups.{group_size}
@@ -24,7 +26,7 @@ use Rattle.tables.specs.declared.Kind.{Kind}
 use Rattle.tables.specs.contracts.Kind.{the_type}
 use Rattle.tables.specs.Kinds.{kind_no}
 use Rattle.facts_sides.specs.Sides.{width_by, size_by, padded_by, least_by}
-use Rattle.facts_classes.specs.Chains.{slot, slot_at}
+use Rattle.facts_classes.specs.Chains.{slot, slot_at, InSlot}
 use Rattle.facts_classes.specs.Seeking.{Classing}
 use Rattle.facts_classes.specs.declared.Chains.{Chains}
 use Rattle.facts_classes.specs.declared.Key.{Key}
@@ -59,6 +61,11 @@ no_unit_tested : (k : Kind) → false ≡ sameb the_type k Kind.Unit → kind_no
 no_unit_tested Kind.Unit t z = false≢true t
 no_unit_tested Kind.Sum t z = omega arith
 no_unit_tested Kind.Product t z = omega arith
+
+pub head_within : (c : Columns) (groups : List ℕ) (r : Chains) (n : ℕ) → Ready c groups r n → (h : ℕ) → h < 1024 → get_or r.heads h 0 ≤ n
+head_within c groups r n ready h l =
+    ⊎_elim (λ (z : get_or r.heads h 0 ≡ 0). omega arith) (λ (w : (get_or r.heads h 0 < n) × InSlot c h (get_or r.heads h 0)). let g = w.0 in omega arith)
+    (ready.chained.starts h l).has
 
 -- At node n, whose entry is read from the columns as they lie there.
 module _ (c : Columns) (groups : List ℕ) (r : Chains) (n : ℕ) (ready : Ready c groups r n) (v : Columns) (same : v ≡ c) where

@@ -1,6 +1,8 @@
 -- The test of an entry, by its kind.
 --
 --   sides_unit                  a unit has zeros
+--   sides_node                  a sum and a product have earlier nodes
+--   sides_other                 there is no other kind
 --   left_within right_within    a side is at most its node
 --   above_unit sides_earlier    what is no unit has earlier sides
 --   bad_entry_here no_bad_entry the first wrong entry of a pass over the nodes: the first that it met; none
@@ -9,7 +11,7 @@ use Prim.Native.Nat.{ℕ, zero, suc, ◌≤◌, ◌<◌}
 use mathlib.Core.Path.{◌≡◌, refl, ap, sym, subst}
 use mathlib.Core.Bool.{true, false, not, ◌&&◌}
 use native.Mathlib.Omega.{arith}
-use lib.Dec.{eqb}
+use lib.Dec.{eqb, ltb}
 use borrow.Author.Tests.{eqb-true}
 use Rattle.meaning.specs.Tables.{Columns, kind, left, right, sides_right, entry_right, first_bad_entry}
 use Rattle.meaning.proofs.Tests.{and_left, and_right}
@@ -18,6 +20,30 @@ use Rattle.meaning.proofs.Trees.{sides_below}
 
 pub sides_unit : (k n l r : ℕ) → k ≡ 0 → sides_right k n l r ≡ (eqb l 0 && eqb r 0)
 sides_unit k n l r e = rw e
+
+pub sides_node : (k n l r : ℕ) → (k ≡ 0 → ⊥) → k ≤ 2 → sides_right k n l r ≡ (ltb l n && ltb r n)
+sides_node zero n l r ne h = absurd (ne refl)
+sides_node (suc zero) n l r ne h = refl
+sides_node (suc (suc zero)) n l r ne h = refl
+sides_node (suc (suc (suc k))) n l r ne h = absurd (above h)
+  where
+    above : suc (suc (suc k)) ≤ 2 → ⊥
+    above g = omega arith
+
+pub sides_other : (k n l r : ℕ) → 2 < k → sides_right k n l r ≡ false
+sides_other zero n l r h = absurd (low h)
+  where
+    low : 2 < 0 → ⊥
+    low g = omega arith
+sides_other (suc zero) n l r h = absurd (low h)
+  where
+    low : 2 < 1 → ⊥
+    low g = omega arith
+sides_other (suc (suc zero)) n l r h = absurd (low h)
+  where
+    low : 2 < 2 → ⊥
+    low g = omega arith
+sides_other (suc (suc (suc k))) n l r h = refl
 
 -- The sides of a unit are 0, and those of any other node stand earlier.
 pub sides_within : (k n l r : ℕ) → sides_right k n l r ≡ true → (l ≤ n) × (r ≤ n)
