@@ -11,7 +11,7 @@
 --   to_bits_top top_below             the n upper bits of a byte
 --   byte_part byte_shifted            a run within one byte
 --   two_bytes                         eight bits from anywhere in a byte on, which end in the next
---   two_bytes_after                   the same, t bytes further on
+--   byte_after two_bytes_after        the same, t bytes further on
 use mathlib.Core.Path.{◌≡◌, sym, ap, ap₂, ◌∙◌, subst}
 use mathlib.Core.Bool.{Bool}
 use mathlib.Core.List.{List, ◌++◌}
@@ -161,6 +161,12 @@ two_bytes s at h =
     (ap (take skip) (drop-drop m at (bits_of s))
     ∙ byte_part s (at + m) skip (omega arith) (omega arith)
     ∙ ap₂ (λ (i k : ℕ). to_bits skip (get_or s i 0 / 2 ^ k)) index left)
+
+pub byte_after : (s : List ℕ) (i t : ℕ) → i + t < length s → to_bits 8 (get_or s (i + t) 0) ≡ take 8 (drop (8 * t) (drop (8 * i) (bits_of s)))
+byte_after s i t h =
+    let e : 8 * (i + t) ≡ 8 * i + 8 * t = omega arith in
+    sym (byte_bits s (i + t) h)
+    ∙ ap (take 8) (ap (λ (k : ℕ). drop k (bits_of s)) e ∙ sym (drop-drop (8 * t) (8 * i) (bits_of s)))
 
 pub two_bytes_after : (s : List ℕ) (at t : ℕ) → at / 8 + t + 1 < length s
     → to_bits (8 - at % 8) (get_or s (at / 8 + t) 0) ++ to_bits (at % 8) (get_or s (at / 8 + t + 1) 0 / 2 ^ (8 - at % 8))
