@@ -1,13 +1,14 @@
 -- Laws of comparing two runs.
 --
---   alike_more                        runs that begin alike: one more piece
+--   alike_none alike_more             runs that begin alike: from none on, by pieces
 --   order_alike                       runs that are alike to their end are equal in order
---   equal_numbers order_told          runs that are alike as far as a piece: the order of the numbers that it makes decides
+--   Says decided order_decided        runs that are alike as far as a piece: the order of the numbers that it makes decides
+--   equal_numbers order_told          the same, where the code compares the two numbers
 --   same_by_order                     runs of one length are the same where their order is equal
 use mathlib.Core.Path.{◌≡◌, refl, sym, ap, ap₂, ◌∙◌, subst}
 use mathlib.Core.Bool.{Bool, true, false}
 use mathlib.Core.List.{List, [], ◌∷◌, ◌++◌}
-use Prim.Native.Nat.{ℕ, zero, suc, ◌+◌, ◌-◌, ◌*◌, ◌/◌, ◌^◌, ◌≤◌, ◌<◌, Ordering}
+use Prim.Native.Nat.{ℕ, zero, suc, ◌+◌, ◌-◌, ◌*◌, ◌/◌, ◌^◌, ◌≤◌, ◌<◌, zero-le, Ordering}
 use native.Mathlib.Nat.{mod-eq_of_lt}
 use native.Mathlib.Omega.{arith}
 use lib.ListN.{length, take, drop}
@@ -30,6 +31,9 @@ two_pieces : (v : List Bool) (i k m : ℕ) → take (k + m) (drop i v) ≡ take 
 two_pieces v i k m = take-add k m (drop i v) ∙ ap (λ (r : List Bool). take k (drop i v) ++ take m r) (drop-drop k i v)
 
 module _ (v : List Bool) (i : ℕ) (w : List Bool) (j n : ℕ) where
+  pub alike_none : Alike v i w j n 0
+  alike_none = record { counted = zero-le; same = refl }
+
   pub alike_more : (k m : ℕ) → k + m ≤ n → Alike v i w j n k → take m (drop (i + k) v) ≡ take m (drop (j + k) w)
       → Alike v i w j n (k + m)
   alike_more k m h a e =
@@ -50,7 +54,7 @@ pub order_alike : {v w : List Bool} → v ≡ w → order_bits v w ≡ Ordering.
 order_alike {v} {w} e = ap (order_bits v) (sym e) ∙ order_self v
 
 -- The order of the first parts decides, unless they are equal.
-abbrev decided : Ordering → Ordering → Ordering
+abbrev pub decided : Ordering → Ordering → Ordering
 decided Ordering.lt o = Ordering.lt
 decided Ordering.eq o = o
 decided Ordering.gt o = Ordering.gt
@@ -66,7 +70,7 @@ order_append (false ∷ p) (true ∷ q) v w h = refl
 order_append (false ∷ p) (false ∷ q) v w h = order_append p q v w (omega arith)
 
 -- What an order says of two numbers.
-abbrev Says : Ordering → ℕ → ℕ → Type 0
+abbrev pub Says : Ordering → ℕ → ℕ → Type 0
 Says Ordering.lt x y = x < y
 Says Ordering.eq x y = x ≡ y
 Says Ordering.gt x y = y < x
@@ -114,7 +118,7 @@ says_one Ordering.gt Ordering.eq x y s t = absurd (omega arith)
 says_one Ordering.gt Ordering.gt x y s t = refl
 
 -- What follows the first k bits of a run of n.
-abbrev after : List Bool → ℕ → ℕ → ℕ → List Bool
+abbrev pub after : List Bool → ℕ → ℕ → ℕ → List Bool
 after v i n k = take (n - k) (drop (i + k) v)
 
 run_split : (v : List Bool) (i n k : ℕ) → k ≤ n → take n (drop i v) ≡ take k (drop i v) ++ after v i n k
@@ -129,7 +133,7 @@ order-after v w i j n k a =
     ∙ ap (λ (o : Ordering). decided o (order_bits (after v i n k) (after w j n k))) (order_self (take k (drop i v)))
 
 -- Runs of n bits whose first k are alike. The next m bits of each make x and y, and what is so of these decides: nothing yet where they are equal.
-order_decided : (v w : List Bool) (i j n k m x y : ℕ) (o : Ordering) → Alike v i w j n k → k + m ≤ n
+pub order_decided : (v w : List Bool) (i j n k m x y : ℕ) (o : Ordering) → Alike v i w j n k → k + m ≤ n
     → to_bits m x ≡ take m (drop (i + k) v)
     → to_bits m y ≡ take m (drop (j + k) w)
     → x < 2 ^ m
