@@ -2,6 +2,7 @@
 --
 --   first_two … first_none      which number it is
 --   first_any first_six         a number below 6 does not depend on the bounds; 6 tells that 2 to 4 fail
+--   no_limit                    a number that is none of 2 to 5 is accepted
 --   same_test                   two comparisons that agree
 --   wide_bits                   a 64-bit width is above the limit exactly if the true one is
 --   passed                      what is known of a node that is accepted, by its width and its size
@@ -10,7 +11,7 @@
 --   true_node true_record       the numbers as they are asked, by the groups of a sound table, are those of the types
 --   earlier_first               the least number is the earlier refusal
 -- Assumes nothing.
-use Prim.Native.Nat.{ℕ, ◌+◌, ◌*◌, ◌-◌, ◌<◌, ◌≤◌, min}
+use Prim.Native.Nat.{ℕ, zero, suc, ◌+◌, ◌*◌, ◌-◌, ◌<◌, ◌≤◌, min}
 use native.Mathlib.Omega.{arith}
 use mathlib.Core.Path.{◌≡◌, refl, sym, ap, ap₂, ◌∙◌}
 use mathlib.Core.Logic.{⊎_elim}
@@ -71,6 +72,15 @@ first_six true w l h = absurd (omega arith)
 first_six false true l h = absurd (omega arith)
 first_six false false true h = absurd (omega arith)
 first_six false false false h = (refl, refl, refl)
+
+pub no_limit : (n : ℕ) → (n ≡ 2 → ⊥) → (n ≡ 3 → ⊥) → (n ≡ 4 → ⊥) → (n ≡ 5 → ⊥) → accepted tt ≡ limit_answer n
+no_limit zero a b c d = refl
+no_limit (suc zero) a b c d = refl
+no_limit (suc (suc zero)) a b c d = absurd (a refl)
+no_limit (suc (suc (suc zero))) a b c d = absurd (b refl)
+no_limit (suc (suc (suc (suc zero)))) a b c d = absurd (c refl)
+no_limit (suc (suc (suc (suc (suc zero))))) a b c d = absurd (d refl)
+no_limit (suc (suc (suc (suc (suc (suc n)))))) a b c d = refl
 
 pub same_test : (a b c d : ℕ) → (a < b → c < d) → (c < d → a < b) → ltb a b ≡ ltb c d
 same_test a b c d f g = ⊎_elim above below (either (ltb a b))

@@ -27,7 +27,7 @@ fails : (b : Bool) → (b ≡ true → ⊥) → b ≡ false
 fails true f = absurd (f refl)
 fails false f = refl
 
-misshaped : (t : Table) → (Shape t → ⊥) → check_table_call t ≡ refused 1 0
+pub misshaped : (t : Table) → (Shape t → ⊥) → check_table_call t ≡ refused 1 0
 misshaped t f =
     ladder_holds (not (shape_right t)) 1 0 (rung (ltb (first_bad t) t.count) 1 (first_bad t) ∷ []) (tt {0})
     (ap not (fails (shape_right t) (λ h. f (shape-right t h))))
