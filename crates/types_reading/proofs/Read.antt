@@ -2,18 +2,23 @@
 --
 --   kind_is                     the kind that was read is the column's entry
 --   facts_read                  all facts of a node: as they were read they are those of its tree
+--   place_fits                  a node as an index
+--   facts_said told_read facts_told     all facts of a node: as they are handed in, as they were read one by one, as they are by its tree
 --   kinds_alike                 two kinds are equal exactly if their numbers are
 -- Assumes nothing.
-use Prim.Native.Nat.{ℕ, zero, suc, ◌<◌, ◌≤◌}
+use Prim.Native.Nat.{ℕ, zero, suc, ◌*◌, ◌<◌, ◌≤◌}
 use mathlib.Core.Path.{◌≡◌, refl, sym, ap, ◌∙◌}
 use denote.Enum.Bare.{sameb}
+use native.Mathlib.Nat.{lt_of_le_of_lt, lt_of_lt_of_le, le_of_lt, mul-le-mul}
 use native.Mathlib.Omega.{arith}
-use lib.Dec.{eqb}
+use lib.Dec.{eqb, lit<}
 use lib.ListN.{get_or}
+use mir.Val.{Fits}
+use mir.Syntax.{w64}
 use Rattle.meaning.specs.Types.{Ty, unit, sum, prod, size}
-use Rattle.meaning.specs.Tables.{Table, kind, left, right, node, ty_at, facts_at}
+use Rattle.meaning.specs.Tables.{Table, NodeFacts, kind, left, right, node, ty_at, facts_at}
 use Rattle.meaning.specs.Checked.{Sound}
-use Rattle.meaning.proofs.Sounds.{sound_tree, sound_kind, sound_least}
+use Rattle.meaning.proofs.Sounds.{sound_tree, sound_kind, sound_width, sound_size, sound_padded, sound_class, sound_least}
 use Rattle.tables.specs.declared.Kind.{Kind}
 use Rattle.tables.specs.contracts.Kind.{the_type}
 use Rattle.tables.specs.Kinds.{kind_no}
@@ -57,6 +62,54 @@ module _ (t : Table) (s : Sound t) (n : ℕ) (h : n < t.count) (r : Node) (e : R
         left_node = e.left_is i;
         right_node = e.right_is i;
         least_of = (g ∙ sound_least t s n h) i;
+      }
+
+-- Everything that the table that is handed in says of a node.
+abbrev pub facts_said : Table → ℕ → NodeFacts
+facts_said t n =
+    record {
+      width_of = get_or t.facts.widths n 0;
+      size_of = get_or t.facts.sizes n 0;
+      padded_of = eqb (get_or t.facts.paddeds n 0) 1;
+      class_no = get_or t.facts.classes n 0;
+      kind_of = kind t.columns n;
+      left_node = left t.columns n;
+      right_node = right t.columns n;
+      least_of = get_or t.facts.leasts n 0;
+    }
+
+pub told_read : (t : Table) (n : ℕ) {w z p k l : ℕ} → w ≡ get_or t.facts.widths n 0 → z ≡ get_or t.facts.sizes n 0 → p ≡ get_or t.facts.paddeds n 0
+    → k ≡ get_or t.facts.classes n 0 → l ≡ get_or t.facts.leasts n 0
+    → record { width_of = w; size_of = z; padded_of = eqb p 1; class_no = k; kind_of = kind t.columns n; left_node = left t.columns n; right_node = right t.columns n; least_of = l } ≡ facts_said t n
+told_read t n e f g h j =
+    λ i.
+    record {
+      width_of = e i;
+      size_of = f i;
+      padded_of = eqb (g i) 1;
+      class_no = h i;
+      kind_of = kind t.columns n;
+      left_node = left t.columns n;
+      right_node = right t.columns n;
+      least_of = j i;
+    }
+
+module _ (t : Table) (s : Sound t) (n : ℕ) (h : n < t.count) where
+  pub place_fits : (k : ℕ) → k ≤ 8 → Fits w64 (n * k)
+  place_fits k l = record { fits = lt_of_le_of_lt (mul-le-mul (le_of_lt (lt_of_lt_of_le h s.few_nodes)) l) (lit< tt) }
+
+  pub facts_told : facts_said t n ≡ facts_at t.columns n
+  facts_told =
+      λ i.
+      record {
+        width_of = sound_width t s n h i;
+        size_of = sound_size t s n h i;
+        padded_of = sound_padded t s n h i;
+        class_no = sound_class t s n h i;
+        kind_of = kind t.columns n;
+        left_node = left t.columns n;
+        right_node = right t.columns n;
+        least_of = sound_least t s n h i;
       }
 
 -- Two kinds are compared by their numbers.

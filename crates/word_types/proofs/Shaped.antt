@@ -1,7 +1,7 @@
 -- How the questions about words and buffers answer, past the table and the node.
 --
 --   no_word_width word_width_told no_buffer_width buffer_width_told     the widths
---   word_told no_buffer buffer_told ctx8_told                           the types
+--   no_word word_told no_buffer buffer_told ctx8_told                   the types
 -- Assumes nothing.
 use Prim.Native.Nat.{ℕ, ◌<◌, ◌≤◌}
 use mathlib.Core.Path.{◌≡◌, sym, ◌∙◌}
@@ -36,6 +36,12 @@ module _ (n : ℕ) where
   buffer_width_told h r e = own_passes (ltb n 13) 6 (bits (buffer n)) (lt-ltb n 13 h) r e
 
 module _ (t : Table) (n : ℕ) (h : accepted (tt {0}) ≡ judged t (n ∷ [])) where
+  pub no_word : (r : ℕ) → r ≡ as_word (type_at t n) → 32 ≤ r → refused 7 0 ≡ as_word_call t n
+  no_word r e l =
+      let g : 32 ≤ as_word (type_at t n) = omega arith in
+      own_holds (ltb (as_word (type_at t n)) 32) 7 (as_word (type_at t n)) (le-ltb (as_word (type_at t n)) 32 g)
+      ∙ asks_pass t (n ∷ []) (shaped (ltb (as_word (type_at t n)) 32)) (as_word (type_at t n)) h
+
   -- A type's n, if it is a word of the list.
   pub word_told : (r : Option ℕ) → MatchOption r (as_word (type_at t n) ≡ 32) (λ m. (m < 32) × (as_word (type_at t n) ≡ m))
       → count_of (ok_or r Refusal.WrongShape) ≡ as_word_call t n
