@@ -53,14 +53,23 @@ pub fn facts_by(kind: Kind, class: u16, x: Facts, y: Facts) -> Facts
     ensures class { result.class ≡ class }
     ensures least { result.least ≡ least_by (kind_no kind) x.least y.least }
 {
-    let number = kind as u8;
     let (p, q) = (u8::from(x.padded), u8::from(y.padded));
-    Facts {
-        width: width_by(number, x.width, y.width),
-        size: size_by(x.size, y.size),
-        padded: padded_by(number, p, q, x.width, y.width) != 0,
-        class,
-        least: least_by(number, x.least, y.least),
+    let size = size_by(x.size, y.size);
+    match kind {
+        Kind::Sum => Facts {
+            width: width_by(1, x.width, y.width),
+            size,
+            padded: padded_by(1, p, q, x.width, y.width) != 0,
+            class,
+            least: least_by(1, x.least, y.least),
+        },
+        _ => Facts {
+            width: width_by(2, x.width, y.width),
+            size,
+            padded: padded_by(2, p, q, x.width, y.width) != 0,
+            class,
+            least: least_by(2, x.least, y.least),
+        },
     }
 }
 
