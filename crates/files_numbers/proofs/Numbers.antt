@@ -2,14 +2,17 @@
 --
 --   number_at_gone number_at_one number_at_cut number_at_short number_at_third number_at_two
 --                               what a number is, by the bytes at its offset
+--   in-range out_of_range       a number that is found, in its range or not
+--   number_faulty               a number that is not found
 -- Assumes nothing.
 use Prim.Native.Nat.{ℕ, ◌+◌, ◌*◌, ◌%◌, ◌≤◌, ◌<◌}
 use mathlib.Core.Path.{◌≡◌, ap}
+use mathlib.Core.Bool.{Bool, true, false}
 use mathlib.Core.List.{List}
 use native.Mathlib.Omega.{arith}
 use lib.ListN.{length, get_or}
 use borrow.Author.Tests.{lt-ltb, le-ltb, le-leb, lt-leb}
-use Rattle.meaning.specs.Files.{faulty, found, seven_bit_groups, number_at}
+use Rattle.meaning.specs.Files.{faulty, found, seven_bit_groups, number_at, number}
 
 -- No byte of it is there.
 pub number_at_gone : (file : List ℕ) (at : ℕ) → length file ≤ at → faulty at ≡ number_at file at
@@ -67,3 +70,14 @@ module _ (file : List ℕ) (at : ℕ) (h : at < length file) (more : 128 ≤ get
     where
       after : at + 2 ≡ at + 1 + 1
       after = omega arith
+
+-- A number that is found, by the test of its range; and one that is not.
+module _ (p : ℕ → Bool) (file : List ℕ) (at : ℕ) where
+  pub in-range : (n next : ℕ) → found n next ≡ number_at file at → p n ≡ true → found n next ≡ number p file at
+  in-range n next e t = rw (← e, t)
+
+  pub out_of_range : (n next : ℕ) → found n next ≡ number_at file at → p n ≡ false → faulty at ≡ number p file at
+  out_of_range n next e t = rw (← e, t)
+
+  pub number_faulty : faulty at ≡ number_at file at → faulty at ≡ number p file at
+  number_faulty e = rw (← e)

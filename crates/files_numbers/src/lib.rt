@@ -1,11 +1,11 @@
-// A table's file, read number by number from its front on: the count of nodes, and numbers below a limit.
+// A table's file, read number by number from its front or from any offset on: the count of nodes, and numbers below a limit.
 // Whatever is read, the reader stands behind it afterwards, or at the fault in it.
 #![tactic(auto)]
 
 ghost use Rattle.std.specs.Prelude.{◌≡◌, ltb};
 ghost use Rattle.meaning.specs.Tables.{count_right};
 ghost use Rattle.meaning.specs.Files.{number_at, number, ended};
-ghost use Rattle.files_numbers.specs.Places.{front, behind};
+ghost use Rattle.files_numbers.specs.Places.{place_at, front, behind};
 ghost use Rattle.files_numbers.specs.Readings.{answer_of, seen_at};
 
 use std::marker::Model;
@@ -37,6 +37,21 @@ impl<'a> Reader<'a> {
         ensures { result ≡ front file.now }
     {
         Reader { file, at: 0 }
+    }
+
+    // A reader at an offset of a file, which may lie past its end: no number stands there.
+    pub fn at(file: &'a [u8], at: usize) -> Reader<'a>
+        ensures { result ≡ place_at file.now at }
+    {
+        Reader { file, at }
+    }
+
+    // The offset of the byte that is next: after a number that was read, that of the byte behind it.
+    pub fn offset(&self) -> usize
+        ensures { result ≡ self.now.at }
+    {
+        let Reader { at, .. } = self;
+        *at
     }
 
     // The number whose first byte is the next, in shortest form and of at most two groups, and the offset after it.
