@@ -1,16 +1,25 @@
 -- Laws of columns that nodes are written to, one after the other from their front.
 --
+--   column column_length        a column with nodes written to it; it keeps its length
 --   written_more                one more is written
 -- Assumes nothing.
-use Prim.Native.Nat.{ℕ, suc, ◌+◌, ◌<◌}
+use Prim.Native.Nat.{ℕ, suc, ◌+◌, ◌≤◌, ◌<◌}
 use mathlib.Core.Path.{◌≡◌, ap, sym, ◌∙◌}
 use mathlib.Core.List.{List, [], ◌∷◌, ◌++◌, map, map-append}
 use native.Mathlib.Numerals.{add-one}
-use lib.ListN.{length, drop, set, get_or, length-map, length-append}
+use native.Mathlib.Omega.{arith}
+use lib.ListN.{length, drop, set, get_or, length-map, length-append, length-drop}
 use lib.Seq.{drop-cons, set_at, append_snoc}
 use Rattle.meaning.specs.Tables.{Columns, columns}
 use Rattle.meaning.specs.Files.{Entry}
 use Rattle.meaning.specs.TypeCalls.{entries_written}
+
+-- A column with the first n nodes written to it.
+abbrev pub column : (Entry → ℕ) → List Entry → ℕ → List ℕ → List ℕ
+column f es n old = map f es ++ drop n old
+
+pub column_length : (f : Entry → ℕ) (es : List Entry) (n : ℕ) (old : List ℕ) → length es ≡ n → n ≤ length old → length (column f es n old) ≡ length old
+column_length f es n old l h = simp (length-append, length-map, length-drop) (omega arith)
 
 -- One column takes one more entry.
 column_more : (f : Entry → ℕ) (es : List Entry) (e : Entry) (n : ℕ) (now old : List ℕ) → now ≡ map f es ++ drop (length es) old

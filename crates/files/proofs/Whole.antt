@@ -1,6 +1,7 @@
 -- Laws of a whole file: its verdict by what was read of it, and what a file with no fault holds.
 --
---   verdict_node verdict_sound
+--   Counted counted             the count is found
+--   verdict_count verdict_node verdict_surplus verdict_sound
 --                               the verdict, by the first fault or by there being none
 --   sound_count sound_nodes     the count and the nodes of a file with no fault
 --   accepted_count              an accepted count is that of the nodes
@@ -14,6 +15,7 @@ use mathlib.Core.Bool.{Bool, true, false, not, cond, ◌&&◌}
 use mathlib.Core.List.{List, [], ◌∷◌}
 use lib.ListN.{length}
 use lib.Dec.{ltb}
+use borrow.Author.Tests.{lt-ltb}
 use Rattle.meaning.specs.Tables.{Columns, count_right, columns_reach, groups_reach}
 use Rattle.meaning.specs.Files.{Reading, faulty, found, number, and_then, ended, Entry, entry_from, entries_from, table_in}
 use Rattle.meaning.specs.Ladder.{refused, accepted, rung, ladder}
@@ -62,6 +64,9 @@ module _ (file : List ℕ) (count : ℕ) (start : Place) (c : Counted file count
     after_nodes =
         whole ∙ ap (λ x. and_then x (ended file)) r.so_far
         ∙ ap (λ f. ended f (first_nodes start count) now.at) (sym (r.in_file ∙ c.in_file))
+
+    pub verdict_surplus : now.at < length file → refused 1 now.at ≡ file_verdict (table_in file)
+    verdict_surplus h = rw (whole, r.so_far, lt-ltb now.at (length file) h)
 
     pub verdict_sound : (u : Unit {0}) → Ok u ≡ answer_of (ended now.file u now.at) → accepted count ≡ file_verdict (table_in file)
     verdict_sound u e = rw after_nodes (by_test (ltb now.at (length now.file)) e)
