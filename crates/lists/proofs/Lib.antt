@@ -1,2 +1,3 @@
 -- Lemmas of `lists`.
 mod Growth
+mod Ends

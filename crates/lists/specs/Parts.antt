@@ -5,6 +5,8 @@
 --   LacksNumber     a list that does not start with a whole number
 --   IsRun           a run as it stands in a list
 --   LacksRun        a list that does not start with a whole run
+--   EndsWith        what is left of a list
+--   HasPart         what stands in a list
 use Rattle.std.specs.Prelude.{◌≡◌, ℕ, ◌+◌, ◌*◌, ◌<◌, ◌≤◌, ◌⊎◌, List, ◌∷◌, ◌++◌, fold, length, slice_index}
 
 -- The number that bytes make, the highest first.
@@ -26,3 +28,14 @@ IsRun list run rest = IsNumber list (length run) (run ++ rest)
 -- There is no run without its length, and none of more than the list has.
 abbrev pub LacksRun : List ℕ → Type 0
 LacksRun list = LacksNumber list ⊎ ((count : ℕ) × (rest : List ℕ) × IsNumber list count rest × (length rest < count))
+
+-- A list is some front and then the rest.
+pub record EndsWith (list rest : List ℕ) : Type 0 where
+  pub front : List ℕ
+  pub whole : list ≡ front ++ rest
+
+-- A part of a list, with what stands before and after it.
+pub record HasPart (list part : List ℕ) : Type 0 where
+  pub before : List ℕ
+  pub after : List ℕ
+  pub whole : list ≡ before ++ (part ++ after)

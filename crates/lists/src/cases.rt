@@ -1,5 +1,7 @@
 // A case of the list: what its call is handed, and what is expected of it. Every case has all parts, whether its call looks at them or not.
-ghost use Rattle.std.specs.Prelude.{◌≡◌, replicate};
+ghost use Rattle.std.specs.Prelude.{◌≡◌, ◌≢◌, ◌↔◌, IfSome, IsTrue, replicate};
+ghost use Rattle.lists.specs.Parts.{EndsWith, HasPart};
+ghost use Rattle.lists.specs.Cases.{Lent};
 
 use crate::Reader;
 
@@ -54,12 +56,27 @@ impl Numbers {
     }
 }
 
-// What is expected: the result, the numbers and the output that the call leaves.
+// What is expected: the result, how many values are accepted, and the numbers and the output that the call leaves.
 #[derive(Clone, Copy)]
 pub struct Expected<'a> {
     pub code: u64,
+    pub accepted: usize,
     pub numbers: Numbers,
     pub out: &'a [u8],
+}
+
+impl Expected<'_> {
+    // Whether a call leaves the expected numbers. Where a single value is accepted, the places for several are not looked at.
+    pub fn has_numbers(&self, numbers: &Numbers) -> bool
+        ensures single { self.now.accepted ≡ 1 → (IsTrue result ↔ ((numbers.now.position ≡ self.now.numbers.position) × (numbers.now.value ≡ self.now.numbers.value))) }
+        ensures several { self.now.accepted ≢ 1 → (IsTrue result ↔ (numbers.now ≡ self.now.numbers)) }
+    {
+        if self.accepted == 1 {
+            numbers.position == self.numbers.position && numbers.value == self.numbers.value
+        } else {
+            *numbers == self.numbers
+        }
+    }
 }
 
 // A case, after the byte of its call.
@@ -71,7 +88,10 @@ pub struct Case<'a> {
 
 impl<'a> Reader<'a> {
     // A record: its bytes as a run, then where it starts and its node.
-    fn record(&mut self) -> Option<Record<'a>> {
+    fn record(&mut self) -> Option<Record<'a>>
+        ensures lent { IfSome result (λ r. HasPart self.old r.bytes.now) }
+        ensures left { EndsWith self.old self.new }
+    {
         Some(Record {
             bytes: self.run()?,
             offset: self.size()?,
@@ -80,7 +100,10 @@ impl<'a> Reader<'a> {
     }
 
     // What a call is handed, in the order of a list.
-    fn request(&mut self) -> Option<Request<'a>> {
+    fn request(&mut self) -> Option<Request<'a>>
+        ensures lent { IfSome result (λ request. Lent self.old request) }
+        ensures left { EndsWith self.old self.new }
+    {
         Some(Request {
             a: self.record()?,
             b: self.record()?,
@@ -96,9 +119,11 @@ impl<'a> Reader<'a> {
         })
     }
 
-    // The position, how many values are accepted, and these. A single one has a place of its own.
-    fn numbers(&mut self) -> Option<Numbers> {
-        let mut numbers = Numbers::lent(self.number()?);
+    // How many values are accepted, and these, beside the position. A single one has a place of its own.
+    fn numbers(&mut self, position: u64) -> Option<(usize, Numbers)>
+        ensures { EndsWith self.old self.new }
+    {
+        let mut numbers = Numbers::lent(position);
         let count = self.size()?;
         if count == 1 {
             numbers.value = self.number()?;
@@ -107,22 +132,33 @@ impl<'a> Reader<'a> {
                 *value = self.number()?;
             }
         }
-        Some(numbers)
+        Some((count, numbers))
     }
 
     // What is expected. The last byte, who says so, is of no use to a replay.
-    fn expected(&mut self) -> Option<Expected<'a>> {
-        let expected = Expected {
-            code: self.number()?,
-            numbers: self.numbers()?,
-            out: self.run()?,
-        };
+    fn expected(&mut self) -> Option<Expected<'a>>
+        ensures lent { IfSome result (λ expected. HasPart self.old expected.out.now) }
+        ensures left { EndsWith self.old self.new }
+    {
+        let code = self.number()?;
+        let position = self.number()?;
+        let (accepted, numbers) = self.numbers(position)?;
+        let out = self.run()?;
         self.byte()?;
-        Some(expected)
+        Some(Expected {
+            code,
+            accepted,
+            numbers,
+            out,
+        })
     }
 
     // A case.
-    pub fn case(&mut self) -> Option<Case<'a>> {
+    pub fn case(&mut self) -> Option<Case<'a>>
+        ensures lent { IfSome result (λ case. Lent self.old case.request) }
+        ensures expected { IfSome result (λ case. HasPart self.old case.expected.out.now) }
+        ensures left { EndsWith self.old self.new }
+    {
         Some(Case {
             request: self.request()?,
             expected: self.expected()?,

@@ -5,7 +5,7 @@
 mod cases;
 
 ghost use Rattle.std.specs.Prelude.{◌≡◌, ℕ, ◌<◌, ◌≤◌, ◌↔◌, List, [], ◌∷◌, ◌++◌, length, IsTrue, MatchOption};
-ghost use Rattle.lists.specs.Parts.{IsNumber, IsRun, LacksNumber, LacksRun, number_of};
+ghost use Rattle.lists.specs.Parts.{EndsWith, IsNumber, IsRun, LacksNumber, LacksRun, number_of};
 
 pub use cases::{Case, Expected, MOST_VALUES, Numbers, Record, Request, UNTOUCHED};
 use std::marker::Model;
@@ -17,7 +17,8 @@ pub fn same_bytes(a: &[u8], b: &[u8]) -> bool
     a == b
 }
 
-// What is left to read of a list. Each method reads one part, and gives nothing where the list does not hold it.
+// What is left to read of a list. Each method reads one part, and gives nothing where the list does not hold it; what is then left is an end of what
+// was left before, as it is after a part.
 #[derive(Drop)]
 pub struct Reader<'a> {
     rest: &'a [u8],
@@ -46,7 +47,8 @@ impl<'a> Reader<'a> {
 
     // A single byte.
     pub fn byte(&mut self) -> Option<u8>
-        ensures { MatchOption result ((self.old ≡ []) × (self.new ≡ [])) (λ byte. self.old ≡ byte ∷ self.new) }
+        ensures part { MatchOption result ((self.old ≡ []) × (self.new ≡ [])) (λ byte. self.old ≡ byte ∷ self.new) }
+        ensures left { EndsWith self.old self.new }
     {
         let (first, rest) = self.rest.split_first()?;
         self.rest = rest;
@@ -55,7 +57,8 @@ impl<'a> Reader<'a> {
 
     // So many bytes.
     fn bytes(&mut self, count: usize) -> Option<&'a [u8]>
-        ensures { MatchOption result ((length self.old < count) × (self.new ≡ self.old)) (λ bytes. (length bytes.now ≡ count) × (self.old ≡ bytes.now ++ self.new)) }
+        ensures part { MatchOption result ((length self.old < count) × (self.new ≡ self.old)) (λ bytes. (length bytes.now ≡ count) × (self.old ≡ bytes.now ++ self.new)) }
+        ensures left { EndsWith self.old self.new }
     {
         let (front, rest) = self.rest.split_at_checked(count)?;
         self.rest = rest;
@@ -64,7 +67,8 @@ impl<'a> Reader<'a> {
 
     // A number: how many bytes it takes, 0 to 8, and these, the highest first.
     pub fn number(&mut self) -> Option<u64>
-        ensures { MatchOption result (LacksNumber self.old) (λ number. IsNumber self.old number self.new) }
+        ensures part { MatchOption result (LacksNumber self.old) (λ number. IsNumber self.old number self.new) }
+        ensures left { EndsWith self.old self.new }
     {
         let count = self.byte()?;
         if count > 8 {
@@ -75,14 +79,16 @@ impl<'a> Reader<'a> {
 
     // A number that counts bytes or points to a place.
     pub fn size(&mut self) -> Option<usize>
-        ensures { MatchOption result (LacksNumber self.old) (λ number. IsNumber self.old number self.new) }
+        ensures part { MatchOption result (LacksNumber self.old) (λ number. IsNumber self.old number self.new) }
+        ensures left { EndsWith self.old self.new }
     {
         usize::try_from(self.number()?).ok()
     }
 
     // A run: its length as a number, and so many bytes.
     pub fn run(&mut self) -> Option<&'a [u8]>
-        ensures { MatchOption result (LacksRun self.old) (λ run. IsRun self.old run.now self.new) }
+        ensures part { MatchOption result (LacksRun self.old) (λ run. IsRun self.old run.now self.new) }
+        ensures left { EndsWith self.old self.new }
     {
         let count = self.size()?;
         self.bytes(count)

@@ -6,4 +6,4 @@
 mod cases;
 mod steps;
 
-pub use steps::{Entry, Step, take_step};
+pub use steps::{Entry, LAST_NUMBER, Step, take_step};

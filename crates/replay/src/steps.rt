@@ -1,18 +1,47 @@
 // One step through a list: the next table is read, or the next case is replayed.
+ghost use Rattle.std.specs.Prelude.{◌≡◌, ◌≤◌};
+ghost use Rattle.replay.specs.Entries.{entry_number};
+
 use crate::cases::replay_case;
 use lists::Reader;
 use replay_parts::Table;
-use samples_names::{Call, NoCall};
+use samples_names::{CALLS, Call, NoCall};
 use std::fmt;
 
 // The byte that announces a table.
 const TABLE: u8 = 255;
+
+// The last number of an entry, which tables have.
+pub const LAST_NUMBER: u8 = CALLS;
 
 // What a list has at a place: a case of a call, or a table, which counts as a case.
 #[derive(Clone, Copy, PartialEq, Eq)]
 pub enum Entry {
     Call(Call),
     Table,
+}
+
+impl Entry {
+    // By which it is counted: a call has its own number, and a table the one after all calls'.
+    pub fn number(self) -> u8
+        ensures named { result ≡ entry_number self }
+        ensures within { result ≤ LAST_NUMBER }
+    {
+        match self {
+            Entry::Call(call) => call.number(),
+            Entry::Table => LAST_NUMBER,
+        }
+    }
+
+    // The entry that has a number.
+    pub fn numbered(number: u8) -> Self
+        ensures { number ≤ LAST_NUMBER → entry_number result ≡ number }
+    {
+        match Call::try_from(number) {
+            Ok(call) => Entry::Call(call),
+            Err(_) => Entry::Table,
+        }
+    }
 }
 
 impl TryFrom<u8> for Entry {
@@ -35,10 +64,9 @@ impl fmt::Display for Entry {
     }
 }
 
-// What was replayed, with the byte that announces it, and whether all was as expected.
+// What was replayed, and whether all was as expected.
 #[derive(Clone, Copy)]
 pub struct Step {
-    pub byte: u8,
     pub entry: Entry,
     pub agrees: bool,
 }
@@ -69,9 +97,5 @@ pub fn take_step(list: &mut Reader, table: &mut Table) -> Option<Step> {
             true
         }
     };
-    Some(Step {
-        byte,
-        entry,
-        agrees,
-    })
+    Some(Step { entry, agrees })
 }

@@ -1,7 +1,7 @@
 // The table that a call is handed, as C hands it over: columns and groups that are lent, and how many nodes they have.
 #![tactic(auto)]
 
-ghost use Rattle.std.specs.Prelude.{◌≡◌, ◌*◌, length, replicate};
+ghost use Rattle.std.specs.Prelude.{◌≡◌, ◌*◌, ◌≤◌, IsTrue, length, replicate};
 
 // How many nodes there is room for.
 pub const MOST_NODES: usize = 1024;
@@ -11,6 +11,9 @@ pub const GROUP_BYTES: usize = 27;
 
 // How many bytes a case has for a node: its entry and its facts.
 const NODE_BYTES: usize = 5 + GROUP_BYTES;
+
+// The groups of all nodes before a call has written them.
+pub const NO_FACTS: [u8; MOST_NODES * GROUP_BYTES] = [0xEE; MOST_NODES * GROUP_BYTES];
 
 // The columns, the groups and the count. Only the nodes below the count are in use.
 #[derive(Drop)]
@@ -68,13 +71,25 @@ impl Table {
     }
 
     // Whether these are its nodes, one after the other, so many and no more.
-    pub fn has_nodes(&self, nodes: &[u8]) -> bool {
-        if self.count > MOST_NODES || nodes.len() != NODE_BYTES * self.count {
+    pub fn has_nodes(&self, nodes: &[u8]) -> bool
+        ensures few { IsTrue result → self.now.count ≤ MOST_NODES }
+        ensures all { IsTrue result → length nodes.now ≡ NODE_BYTES * self.now.count }
+    {
+        self.has_nodes_with(&self.groups, self.count, nodes)
+    }
+
+    // Whether these are so many of its entries, each with the facts of groups that a call has written, one after the other, and no more.
+    pub fn has_nodes_with(&self, groups: &[u8], count: usize, nodes: &[u8]) -> bool
+        requires { length groups.now ≡ MOST_NODES * GROUP_BYTES }
+        ensures few { IsTrue result → count ≤ MOST_NODES }
+        ensures all { IsTrue result → length nodes.now ≡ NODE_BYTES * count }
+    {
+        if count > MOST_NODES || nodes.len() != NODE_BYTES * count {
             return false;
         }
-        for i in 0..self.count {
+        for i in 0..count {
             let (entry, facts) = nodes[NODE_BYTES * i..NODE_BYTES * (i + 1)].split_at(5);
-            let group = &self.groups[GROUP_BYTES * i..GROUP_BYTES * (i + 1)];
+            let group = &groups[GROUP_BYTES * i..GROUP_BYTES * (i + 1)];
             if !(same_entry(entry, self.kinds[i], self.lefts[i], self.rights[i])
                 && same_facts(facts, group))
             {

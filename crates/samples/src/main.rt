@@ -4,7 +4,7 @@
 #![tactic(auto)]
 
 use lists::Reader;
-use replay::{Entry, take_step};
+use replay::{Entry, LAST_NUMBER, take_step};
 use replay_parts::Table;
 use std::env::{Env, FillError};
 use std::fs::Files;
@@ -31,11 +31,13 @@ impl Tally {
     }
 }
 
-// The cases of each call, with those of tables, by the byte that announces them, and all cases. An array and no map: the program has fixed memory
-// and no heap.
+// How many numbers the entries of a list have.
+const NUMBERS: usize = LAST_NUMBER as usize + 1;
+
+// The cases of each call, with those of tables, by their numbers, and all cases. An array and no map: the program has fixed memory and no heap.
 #[derive(Clone, Copy)]
 struct Tallies {
-    by_byte: [Tally; 256],
+    by_number: [Tally; NUMBERS],
     all: Tally,
 }
 
@@ -53,7 +55,7 @@ fn replay_cases(rt: &impl Print, list: &mut Reader, tallies: &mut Tallies) -> io
         if !step.agrees {
             println!(rt; "case {case} differs: {}", step.entry)?;
         }
-        tallies.by_byte[usize::from(step.byte)].count(step.agrees);
+        tallies.by_number[usize::from(step.entry.number())].count(step.agrees);
         tallies.all.count(step.agrees);
     }
     Ok(true)
@@ -63,16 +65,14 @@ fn replay_cases(rt: &impl Print, list: &mut Reader, tallies: &mut Tallies) -> io
 fn replay_list(rt: &impl Print, list: &[u8]) -> io::Result<()> {
     let mut list = Reader::new(list);
     let mut tallies = Tallies {
-        by_byte: [Tally::default(); 256],
+        by_number: [Tally::default(); NUMBERS],
         all: Tally::default(),
     };
     let whole = replay_cases(rt, &mut list, &mut tallies)?;
-    for byte in 0..=u8::MAX {
-        let tally = tallies.by_byte[usize::from(byte)];
-        let Ok(entry) = Entry::try_from(byte) else {
-            continue;
-        };
+    for number in 0..=LAST_NUMBER {
+        let tally = tallies.by_number[usize::from(number)];
         if tally.replayed != 0 {
+            let entry = Entry::numbered(number);
             println!(rt;
                 "{entry}: {} replayed, {} differ",
                 tally.replayed, tally.differing

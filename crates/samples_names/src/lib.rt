@@ -1,7 +1,13 @@
 // The calls, part by part, with their names, and which call a number is. tools/calls writes this file from include/calls.list.
 #![tactic(auto)]
 
+ghost use Rattle.std.specs.Prelude.{◌≡◌, ◌<◌};
+ghost use Rattle.samples_names.specs.Numbers.{Decodes, number_of};
+
 use std::fmt;
+
+// How many calls there are. Their numbers are those below.
+pub const CALLS: u8 = 50;
 
 // Tables.
 #[derive(Clone, Copy, PartialEq, Eq)]
@@ -283,12 +289,75 @@ impl fmt::Display for Call {
     }
 }
 
+impl Call {
+    // The number of a call.
+    pub fn number(self) -> u8
+        ensures named { result ≡ number_of self }
+        ensures below { result < CALLS }
+    {
+        match self {
+            Call::Tables(TablesCall::ReadTable) => 0,
+            Call::Tables(TablesCall::FillFacts) => 1,
+            Call::Tables(TablesCall::CheckTable) => 2,
+            Call::Types(TypesCall::FactsOf) => 3,
+            Call::Types(TypesCall::SameType) => 4,
+            Call::Types(TypesCall::IsUnit) => 5,
+            Call::Types(TypesCall::IsEmpty) => 6,
+            Call::Types(TypesCall::TypeAsSum) => 7,
+            Call::Types(TypesCall::TypeAsProduct) => 8,
+            Call::Types(TypesCall::PadLeft) => 9,
+            Call::Types(TypesCall::PadRight) => 10,
+            Call::WordTypes(WordTypesCall::AsWord) => 11,
+            Call::WordTypes(WordTypesCall::WordWidth) => 12,
+            Call::WordTypes(WordTypesCall::BufferWidth) => 13,
+            Call::WordTypes(WordTypesCall::IsBuffer8) => 14,
+            Call::WordTypes(WordTypesCall::IsCtx8) => 15,
+            Call::Views(ViewsCall::AsLeft) => 16,
+            Call::Views(ViewsCall::AsRight) => 17,
+            Call::Views(ViewsCall::AsProduct) => 18,
+            Call::Comparing(ComparingCall::Equal) => 19,
+            Call::Comparing(ComparingCall::Compare) => 20,
+            Call::Lengths(LengthsCall::CompactLen) => 21,
+            Call::Lengths(LengthsCall::PaddedLen) => 22,
+            Call::Constructors(ConstructorsCall::Unit) => 23,
+            Call::Constructors(ConstructorsCall::Left) => 24,
+            Call::Constructors(ConstructorsCall::Right) => 25,
+            Call::Constructors(ConstructorsCall::Product) => 26,
+            Call::Constructors(ConstructorsCall::None) => 27,
+            Call::Constructors(ConstructorsCall::Some) => 28,
+            Call::Constructors(ConstructorsCall::Zero) => 29,
+            Call::Words(WordsCall::U1) => 30,
+            Call::Words(WordsCall::U2) => 31,
+            Call::Words(WordsCall::U4) => 32,
+            Call::Words(WordsCall::U8) => 33,
+            Call::Words(WordsCall::U16) => 34,
+            Call::Words(WordsCall::U32) => 35,
+            Call::Words(WordsCall::U64) => 36,
+            Call::Words(WordsCall::U128) => 37,
+            Call::Words(WordsCall::U256) => 38,
+            Call::Words(WordsCall::U512) => 39,
+            Call::Words(WordsCall::FromByteArray) => 40,
+            Call::Joins(JoinsCall::WordProduct) => 41,
+            Call::Joins(JoinsCall::WordFromBits) => 42,
+            Call::Buffers(BuffersCall::Buffer8TwoNPlusOne) => 43,
+            Call::Buffers(BuffersCall::Ctx8) => 44,
+            Call::Codecs(CodecsCall::FromCompactBits) => 45,
+            Call::Codecs(CodecsCall::FromPaddedBits) => 46,
+            Call::Codecs(CodecsCall::ToCompactBits) => 47,
+            Call::Codecs(CodecsCall::ToPaddedBits) => 48,
+            Call::Cuts(CutsCall::Prune) => 49,
+        }
+    }
+}
+
 // A number that is no call's.
 #[derive(Clone, Copy)]
 pub struct NoCall(pub u8);
 
 impl TryFrom<u8> for Call {
     type Error = NoCall;
+
+    ghost try_from_gives = { Decodes };
 
     fn try_from(number: u8) -> Result<Self, NoCall> {
         match number {
