@@ -37,6 +37,7 @@ use Rattle.facts_entries.proofs.Entries.{above_unit, sides_earlier, sides_unit}
 use Rattle.facts_sides.proofs.Reading.{held_facts, same_digit}
 use Rattle.facts_sides.proofs.Steps.{width-at, size-at, padded-at, least_at}
 use Rattle.facts_classes.proofs.Classes.{unit_tree, unit_class, kind_below}
+use Rattle.facts_classes.proofs.Linking.{slot_below}
 use Rattle.facts.proofs.Judging.{entries_to}
 
 -- The sides of a unit are 0, so its key is all zeros.
@@ -138,7 +139,10 @@ module _ (c : Columns) (groups : List ℕ) (r : Chains) (n : ℕ) (ready : Ready
                   };
               groups-reach = let w = m.groups-reach in omega arith;
               classes_right = λ j l. (right_holds c (facts_in groups) j (ready.known.facts-right j l)).class_held;
-              chained = ready.chained;
+              goes_on = ready.chained.goes_on;
+              starts =
+                  ready.chained.starts (slot (kind_no key.kind) key.left key.right)
+                  (let b = slot_below (kind_no key.kind) key.left key.right in omega arith);
               no_unit = no_unit;
               kind_is = sym (is ∙ kind_read);
               left_is = sym left_facts.class_is;

@@ -18,7 +18,7 @@ use Rattle.facts_classes.specs.Seeking.{Classing}
 use Rattle.facts_classes.specs.declared.Chains.{Chains}
 use Rattle.facts_classes.specs.declared.Key.{Key}
 use Rattle.facts_classes.proofs.Classes.{first_unit, old_class, new_class}
-use Rattle.facts_classes.proofs.Linking.{Along, slot_below, along_start, along_next, along_own, last_falls}
+use Rattle.facts_classes.proofs.Linking.{Along, along_start, along_next, along_own, last_falls}
 
 -- A kind as a number.
 kind_tag : (k : Kind) → tag_of the_type k ≡ kind_no k
@@ -43,13 +43,12 @@ module _ (c : Columns) (groups : List ℕ) (r : Chains) (key : Key) (n : ℕ) (h
   pub starts : (s : ℕ) → s ≡ slot (kind_no key.kind) key.left key.right → At (get_or r.heads s 0)
   starts s e =
       along_start c (kind_no key.kind) key.left key.right n (get_or r.heads s 0) not_first
-      (subst (λ (x : ℕ). Last (InSlot c x) n (get_or r.heads s 0)) e
-      (h.chained.starts s (let b = slot_below (kind_no key.kind) key.left key.right in omega arith)))
+      (subst (λ (x : ℕ). Last (InSlot c (slot (kind_no key.kind) key.left key.right)) n (get_or r.heads x 0)) (sym e) h.starts)
 
   -- At a node, whose entry is read from the columns as they lie there.
   module _ (v : Columns) (same : v ≡ c) (m : ℕ) (at : At m) (ne : m ≡ 0 → ⊥) where
     next_last : Last (InSlot c (slot_at c m)) m (get_or r.links m 0)
-    next_last = h.chained.goes_on m at.within (along_own c (kind_no key.kind) key.left key.right n m at ne)
+    next_last = h.goes_on m at.within (along_own c (kind_no key.kind) key.left key.right n m at ne)
 
     pub falls : get_or r.links m 0 < m
     falls = last_falls next_last ne
